@@ -35,9 +35,18 @@ fn files_of_the_system(rt: HostRuntime) -> Result<(), Fail> {
     let mut files = StdFiles::new(&rt, rt.alloc());
     files.write("/dev/null", b"sea")?;
     assert_eq!(rt; files.read("/dev/null", 0)?.len(), 0);
-    assert_eq!(rt; files.read("/dev/zero", 20_000).err(), Some(FileFault::TooLong));
-    assert_eq!(rt; files.read("/dev/null/none", 9).err(), Some(FileFault::Failed));
-    assert_eq!(rt; files.write("/dev/null/none", b"sea").err(), Some(FileFault::Failed));
+    assert_eq!(rt;
+        files.read("/dev/zero", 20_000).err(),
+        Some(FileFault::TooLong)
+    );
+    assert_eq!(rt;
+        files.read("/dev/null/none", 9).err(),
+        Some(FileFault::Failed)
+    );
+    assert_eq!(rt;
+        files.write("/dev/null/none", b"sea").err(),
+        Some(FileFault::Failed)
+    );
     Ok(())
 }
 

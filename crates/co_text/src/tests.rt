@@ -6,18 +6,12 @@ use std::test::Fail;
 
 // Texts, and their terms with a space behind each.
 const TEXTS: [(&str, &str); 18] = [
-    (
-        "Straße STRASSE don't",
-        "strasse strasse don't ",
-    ),
+    ("Straße STRASSE don't", "strasse strasse don't "),
     (
         "Sailing vessels, sailing crews; SAILING!",
         "sailing vessels sailing crews sailing ",
     ),
-    (
-        " \t\n .,;!? — … ",
-        "",
-    ),
+    (" \t\n .,;!? — … ", ""),
     (
         "Größe GRÖSSE grösse GRÖẞE ẞ ß",
         "grösse grösse grösse grösse ss ss ",
@@ -42,14 +36,8 @@ const TEXTS: [(&str, &str); 18] = [
         "1,234 1,234.56 12.5.6 3,4 x1.5y 10% $7 1_000 2nd 1/2 7,x 8.y",
         "1,234 1,234.56 12.5.6 3,4 x1.5y 10 7 1_000 2nd 1 2 7 x 8 y ",
     ),
-    (
-        "漢字 仮名 かな カナ 北京 lake湖",
-        "漢 字 仮 名 か な カナ 北 京 lake 湖 ",
-    ),
-    (
-        "ภาษา thai กิข",
-        "ภ า ษ า thai กิ ข ",
-    ),
+    ("漢字 仮名 かな カナ 北京 lake湖", "漢 字 仮 名 か な カナ 北 京 lake 湖 "),
+    ("ภาษา thai กิข", "ภ า ษ า thai กิ ข "),
     (
         "résumé re\u{301}sume\u{301} RÉSUMÉ RE\u{301}SUME\u{301}",
         "résumé re\u{301}sume\u{301} résumé re\u{301}sume\u{301} ",
@@ -62,10 +50,7 @@ const TEXTS: [(&str, &str); 18] = [
         "e.g. i.e. U.N. a.b.c. www.example.org user@mail.test",
         "e.g i.e u.n a.b.c www.example.org user mail.test ",
     ),
-    (
-        "ᾳ ᾼ ὠ ὐ ὒ ᾶ",
-        "αι αι ὠ υ\u{313} υ\u{313}\u{300} α\u{342} ",
-    ),
+    ("ᾳ ᾼ ὠ ὐ ὒ ᾶ", "αι αι ὠ υ\u{313} υ\u{313}\u{300} α\u{342} "),
     (
         "A\u{308}pfel a\u{308}pfel Äpfel \u{308}alone",
         "a\u{308}pfel a\u{308}pfel äpfel alone ",
@@ -74,10 +59,7 @@ const TEXTS: [(&str, &str); 18] = [
         "one two one TWO One three two",
         "one two one two one three two ",
     ),
-    (
-        "l·l a’b’c d'e'f ‘g’",
-        "l·l a’b’c d'e'f g ",
-    ),
+    ("l·l a’b’c d'e'f ‘g’", "l·l a’b’c d'e'f g "),
 ];
 
 // The terms, with a space behind each.
