@@ -1,0 +1,261 @@
+-- What encryption and decryption give.
+use Rattle.std.proofs.Common.{◌≡◌, ℕ, ◌*◌, ◌<◌, ◌≤◌, sym, ap, subst, ◌∙◌, arith, ℤ, pos, ◌+ℤ◌, ◌-ℤ◌, ◌*ℤ◌, List, length, get_or, map}
+use Rattle.std.specs.Int.RustNames.{unsigned_abs}
+use Rattle.std.proofs.lemmas.List.{get_or-map, length-map, ext_get_or}
+use Rattle.rand_core.specs.Stream.{Stream}
+use Rattle.co_math.specs.Parameters.{q, plain_modulus, plain_half, error_bound, fresh_bound}
+use Rattle.co_math.specs.Residues.{residue}
+use Rattle.co_math.specs.Polynomials.{IsWrapped, plus, minus, product}
+use Rattle.co_math.specs.Coefficients.{coefficients, AreBelow, AreResidues, IsDegree}
+use Rattle.co_math.specs.Meanings.{phase, Means}
+use Rattle.co_math.proofs.Integers.{linear}
+use Rattle.co_math.proofs.Residues.{cong-trans, cong_from, cong-refl}
+use Rattle.co_math.proofs.Terms.{coefficient-low}
+use Rattle.co_math.proofs.Places.{coefficients-IsWrapped}
+use Rattle.co_math.proofs.Polynomials.{product-IsWrapped}
+use Rattle.co_math.proofs.Agreements.{Agree, residues_agree, residues_for, plus_agree, minus_agree, product_agree}
+use Rattle.co_math.proofs.Noise.{rounding}
+use Rattle.co_math.proofs.Done.{AreFilled}
+use Rattle.co_ring.specs.declared.moduli.Modulus.TheVariants.{Plain}
+use Rattle.co_ring.specs.Polynomials.{Polynomial}
+use Rattle.co_bfv.specs.Lists.{residues_of, signed_coefficients}
+use Rattle.co_bfv.specs.Secrets.{IsSecret}
+use Rattle.co_bfv.specs.Ciphertexts.{Ciphertext, IsCiphertext, ciphertext_degree, MeansWithin}
+use Rattle.co_bfv.specs.Encryptions.{delta, encrypted, opened, decrypted}
+use Rattle.co_bfv.proofs.Listed.{degree_positive, residues_of-are, residues_of-is, length-residues_of, residues_of-agree, plus-IsWrapped, minus-IsWrapped, signed-IsWrapped, signed-small}
+use Rattle.co_bfv.specs.Draws.{uniform_draw, error_draw, encryption_draw}
+use Rattle.co_bfv.proofs.Drawn.{AreSmall, errors_small}
+use Rattle.co_bfv.proofs.Fresh.{means_fresh}
+use Rattle.co_bfv.proofs.Decoded.{decoded}
+
+wrapped_to : (n : ℕ) (xs : List ℕ) → 0 < n → length xs ≡ n → IsWrapped n (coefficients xs)
+wrapped_to n xs z e = subst (λ (k : ℕ). IsWrapped k (coefficients xs)) e (coefficients-IsWrapped xs (omega (arith, e)))
+
+signed_to : (n : ℕ) (xs : List ℤ) → 0 < n → length xs ≡ n → IsWrapped n (signed_coefficients xs)
+signed_to n xs z e = subst (λ (k : ℕ). IsWrapped k (signed_coefficients xs)) e (signed-IsWrapped xs (omega (arith, e)))
+
+same : (f : ℤ → ℤ) → Agree q f f
+same f k = cong-refl q (f k)
+
+-- residues of a product with a polynomial that is known modulo q
+pub product_residues : (n : ℕ) (a s : ℤ → ℤ) (ss hs : List ℕ) → 0 < n → IsWrapped n s → AreResidues q n s ss
+    → AreResidues q n (product n a (coefficients ss)) hs → AreResidues q n (product n a s) hs
+product_residues n a s ss hs z w r h =
+    residues_for q n (product n a (coefficients ss)) (product n a s) hs (omega arith)
+    (λ k u. product_agree q n a (coefficients ss) a s (same a) (residues_agree q n s ss (omega arith) z w r) (pos k)) h
+
+-- c0 of an encryption, from what the steps give
+pub masked_residues : (n : ℕ) (d e p : ℤ → ℤ) (es xs hs ys : List ℕ) → 0 < n → IsWrapped n d → IsWrapped n e → IsWrapped n p
+    → AreResidues q n e es → AreResidues q n (plus d (coefficients es)) xs → AreResidues q n p hs → AreResidues q n (minus (coefficients xs) (coefficients hs)) ys
+    → AreResidues q n (minus (plus d e) p) ys
+masked_residues n d e p es xs hs ys z wd we wp r x h y =
+    residues_for q n (minus (coefficients xs) (coefficients hs)) (minus (plus d e) p) ys (omega arith) (λ k u. minus_agree q (coefficients xs) (coefficients hs) (plus d e) p sums (residues_agree q n p hs (omega arith) z wp h) (pos k)) y
+  where
+    sums : Agree q (coefficients xs) (plus d e)
+    sums = residues_agree q n (plus d e) xs (omega arith) z (plus-IsWrapped n d e wd we)
+        (residues_for q n (plus d (coefficients es)) (plus d e) xs (omega arith) (λ k u. plus_agree q d (coefficients es) d e (same d) (residues_agree q n e es (omega arith) z we r) (pos k)) x)
+
+-- the product with a secret
+pub mul_are : (secret : List ℤ) (os ss hs : List ℕ) → IsSecret secret → length os ≡ length secret → ss ≡ residues_of q (length secret) (signed_coefficients secret)
+    → AreResidues q (length os) (product (length os) (coefficients os) (coefficients ss)) hs
+    → hs ≡ residues_of q (length secret) (product (length secret) (coefficients os) (signed_coefficients secret))
+mul_are secret os ss hs h e f r =
+    let n = length secret in
+    let s = signed_coefficients secret in
+    let z = degree_positive n h.degree in
+    let known : AreResidues q n s ss = subst (AreResidues q n s) (sym f) (residues_of-are q n s) in
+    residues_of-is q n (product n (coefficients os) s) hs
+    (product_residues n (coefficients os) s ss hs z (signed-IsWrapped secret z) known
+    (subst (λ (k : ℕ). AreResidues q k (product k (coefficients os) (coefficients ss)) hs) e r))
+
+-- both parts of an encryption
+encrypted_are : (secret : List ℤ) (message us : List ℕ) (e : List ℤ) (es hs xs ys : List ℕ) → IsDegree (length secret)
+    → length message ≡ length secret → length e ≡ length secret
+    → AreResidues q (length secret) (signed_coefficients e) es
+    → AreResidues q (length secret) (product (length secret) (coefficients us) (signed_coefficients secret)) hs
+    → AreResidues q (length secret) (plus (coefficients (map delta message)) (coefficients es)) xs
+    → AreResidues q (length secret) (minus (coefficients xs) (coefficients hs)) ys
+    → record { c0 = ys; c1 = us } ≡ encrypted secret message us e
+unfolding encrypted
+encrypted_are secret message us e es hs xs ys d lm le er h x y i = record { c0 = first i; c1 = us }
+  where
+    n : ℕ
+    n = length secret
+
+    z : 0 < n
+    z = degree_positive n d
+
+    p : ℤ → ℤ
+    p = product n (coefficients us) (signed_coefficients secret)
+
+    first : ys ≡ residues_of q n (minus (plus (coefficients (map delta message)) (signed_coefficients e)) p)
+    first =
+        residues_of-is q n (minus (plus (coefficients (map delta message)) (signed_coefficients e)) p) ys
+        (masked_residues n (coefficients (map delta message)) (signed_coefficients e) p es xs hs ys z
+        (wrapped_to n (map delta message) z (length-map message delta ∙ lm)) (signed_to n e z le) (product-IsWrapped n (coefficients us) (signed_coefficients secret) (signed-IsWrapped secret z))
+        er x h y)
+
+-- t * Delta(m) is q * m but for half of t
+delta-near : (x : ℕ) → unsigned_abs (pos plain_modulus *ℤ pos (delta x) -ℤ pos q *ℤ pos x) ≤ plain_half
+unfolding delta
+delta-near x = rounding x
+
+-- a fresh ciphertext means its message
+pub encrypted_means : (secret : List ℤ) (message a : List ℕ) (e : List ℤ) → IsSecret secret → length message ≡ length secret → AreSmall (length secret) error_bound e
+    → MeansWithin (signed_coefficients secret) (encrypted secret message a e) (coefficients message) fresh_bound
+unfolding encrypted
+encrypted_means secret message a e h lm small =
+    subst (λ (k : ℕ). Means plain_modulus q k s (coefficients (residues_of q n f)) (coefficients a) m fresh_bound) (sym (length-residues_of q n f))
+    (means_fresh plain_modulus q n s (coefficients (residues_of q n f)) (coefficients a) d (signed_coefficients e) m plain_half error_bound (omega arith) z wd (wrapped_to n message z lm)
+    (residues_of-agree q n f (omega arith) z (minus-IsWrapped n (plus d (signed_coefficients e)) (product n (coefficients a) s) (plus-IsWrapped n d (signed_coefficients e) wd we) (product-IsWrapped n (coefficients a) s ws)))
+    near (signed-small e error_bound (omega (arith, z, small.len)) (λ i l. small.each i (omega (arith, small.len)))))
+  where
+    n : ℕ
+    n = length secret
+
+    z : 0 < n
+    z = degree_positive n h.degree
+
+    s : ℤ → ℤ
+    s = signed_coefficients secret
+
+    m : ℤ → ℤ
+    m = coefficients message
+
+    d : ℤ → ℤ
+    d = coefficients (map delta message)
+
+    ws : IsWrapped n s
+    ws = signed-IsWrapped secret z
+
+    wd : IsWrapped n d
+    wd = wrapped_to n (map delta message) z (length-map message delta ∙ lm)
+
+    we : IsWrapped n (signed_coefficients e)
+    we = signed_to n e z small.len
+
+    f : ℤ → ℤ
+    f = minus (plus d (signed_coefficients e)) (product n (coefficients a) s)
+
+    near : (k : ℕ) → k < n → unsigned_abs (pos plain_modulus *ℤ d (pos k) -ℤ pos q *ℤ m (pos k)) ≤ plain_half
+    near k l = subst (λ (y : ℤ). unsigned_abs y ≤ plain_half) (sym (λ i. pos plain_modulus *ℤ scaled i -ℤ pos q *ℤ plain i)) (delta-near (get_or message k 0))
+      where
+        scaled : d (pos k) ≡ pos (delta (get_or message k 0))
+        scaled = coefficient-low (map delta message) k (omega (arith, length-map message delta, lm)) ∙ ap pos (get_or-map delta message k 0 0 (omega (arith, lm)))
+
+        plain : m (pos k) ≡ pos (get_or message k 0)
+        plain = coefficient-low message k (omega (arith, lm))
+
+-- the phase, from what the steps give
+pub phase_is : (secret : List ℤ) (c : Ciphertext) (hs xs : List ℕ) → IsCiphertext c → ciphertext_degree c ≡ length secret
+    → hs ≡ residues_of q (length secret) (product (length secret) (coefficients c.c1) (signed_coefficients secret))
+    → AreResidues q (length hs) (plus (coefficients hs) (coefficients c.c0)) xs
+    → map opened xs ≡ decrypted secret c
+unfolding decrypted phase plus
+phase_is secret c hs xs h e f x =
+    ap (map opened)
+    (residues_of-is q n (λ k. coefficients c.c0 k +ℤ p k) xs
+    (residues_for q n (λ k. coefficients hs k +ℤ coefficients c.c0 k) (λ k. coefficients c.c0 k +ℤ p k) xs (omega arith)
+    (λ k u. cong-trans q (plus_agree q (coefficients hs) (coefficients c.c0) p (coefficients c.c0) agree (same (coefficients c.c0)) (pos k)) (cong_from q (turned (p (pos k)) (coefficients c.c0 (pos k)))))
+    (subst (λ (k : ℕ). AreResidues q k (plus (coefficients hs) (coefficients c.c0)) xs) (known.len) x)))
+  where
+    n : ℕ
+    n = ciphertext_degree c
+
+    z : 0 < n
+    z = degree_positive n h.c0.degree
+
+    p : ℤ → ℤ
+    p = product n (coefficients c.c1) (signed_coefficients secret)
+
+    turned : (a b : ℤ) → a +ℤ b ≡ b +ℤ a
+    turned a b = omega (arith, linear)
+
+    known : AreResidues q n p hs
+    known = subst (λ (k : ℕ). AreResidues q k (product k (coefficients c.c1) (signed_coefficients secret)) hs) (sym e)
+        (subst (AreResidues q (length secret) (product (length secret) (coefficients c.c1) (signed_coefficients secret))) (sym f) (residues_of-are q (length secret) (product (length secret) (coefficients c.c1) (signed_coefficients secret))))
+
+    agree : Agree q (coefficients hs) p
+    agree = residues_agree q n p hs (omega arith) z (product-IsWrapped n (coefficients c.c1) (signed_coefficients secret) (signed_to n secret z (sym e))) known
+
+-- a decryption of a ciphertext is what it means
+pub decrypted_are : (secret : List ℤ) (c : Ciphertext) (m : ℤ → ℤ) (b : ℕ) → MeansWithin (signed_coefficients secret) c m b → 2 * b < q
+    → AreResidues plain_modulus (ciphertext_degree c) m (decrypted secret c)
+unfolding decrypted opened
+decrypted_are secret c m b h l = record {
+  len = length-map (residues_of q n f) opened ∙ length-residues_of q n f;
+  each = λ k u. get_or-map opened (residues_of q n f) k 0 0 (omega (arith, u, length-residues_of q n f)) ∙ ap opened (at k u)
+      ∙ decoded plain_modulus q n (signed_coefficients secret) (coefficients c.c0) (coefficients c.c1) m b (pos k) (omega arith) (omega arith) (omega arith) h l;
+}
+  where
+    n : ℕ
+    n = ciphertext_degree c
+
+    f : ℤ → ℤ
+    f = phase n (signed_coefficients secret) (coefficients c.c0) (coefficients c.c1)
+
+    at : (k : ℕ) → k < n → get_or (residues_of q n f) k 0 ≡ residue q (f (pos k))
+    at k u = let r = residues_of-are q n f in r.each k u
+
+-- an encryption, from what its steps give
+module _ (secret : List ℤ) (message : List ℕ) (k : ℕ) (s t u : Stream) (us es hs ds xs ys : List ℕ) (h : IsSecret secret)
+    (ek : k ≡ length message) (em : length message ≡ length secret)
+    (a : us ≡ (uniform_draw k s).0) (at : t ≡ (uniform_draw k s).1)
+    (e : es ≡ residues_of q k (signed_coefficients (error_draw k t).0)) (et : u ≡ (error_draw k t).1) where
+  drawn_a : us ≡ (uniform_draw (length secret) s).0
+  drawn_a = a ∙ ap (λ (j : ℕ). (uniform_draw j s).0) (ek ∙ em)
+
+  after_a : t ≡ (uniform_draw (length secret) s).1
+  after_a = at ∙ ap (λ (j : ℕ). (uniform_draw j s).1) (ek ∙ em)
+
+  errors : List ℤ
+  errors = (error_draw (length secret) (uniform_draw (length secret) s).1).0
+
+  drawn_e : es ≡ residues_of q (length secret) (signed_coefficients errors)
+  unfolding errors
+  drawn_e = e ∙ (λ i. residues_of q ((ek ∙ em) i) (signed_coefficients (error_draw ((ek ∙ em) i) (after_a i)).0))
+
+  small : AreSmall (length secret) error_bound errors
+  unfolding error_draw errors
+  small = errors_small (length secret) (uniform_draw (length secret) s).1
+
+  pub rest_after : u ≡ (encryption_draw secret message s).1
+  unfolding encryption_draw
+  rest_after = et ∙ (λ i. (error_draw ((ek ∙ em) i) (after_a i)).1)
+
+  pub fresh_means : MeansWithin (signed_coefficients secret) (encryption_draw secret message s).0 (coefficients message) fresh_bound
+  unfolding encryption_draw errors
+  fresh_means = encrypted_means secret message (uniform_draw (length secret) s).0 errors h em small
+
+  pub encryption_is : hs ≡ residues_of q (length secret) (product (length secret) (coefficients us) (signed_coefficients secret)) → ds ≡ map delta message
+      → AreResidues q (length ds) (plus (coefficients ds) (coefficients es)) xs → AreResidues q (length xs) (minus (coefficients xs) (coefficients hs)) ys
+      → record { c0 = ys; c1 = us } ≡ (encryption_draw secret message s).0
+  unfolding encryption_draw errors
+  encryption_is m d x y =
+      let n = length secret in
+      let p = product n (coefficients us) (signed_coefficients secret) in
+      let ld : length ds ≡ n = ap length d ∙ length-map message delta ∙ em in
+      let x' : AreResidues q n (plus (coefficients (map delta message)) (coefficients es)) xs =
+      subst (λ (v : List ℕ). AreResidues q n (plus (coefficients v) (coefficients es)) xs) d (subst (λ (j : ℕ). AreResidues q j (plus (coefficients ds) (coefficients es)) xs) ld x) in
+      let y' : AreResidues q n (minus (coefficients xs) (coefficients hs)) ys = subst (λ (j : ℕ). AreResidues q j (minus (coefficients xs) (coefficients hs)) ys) (x.len ∙ ld) y in
+      encrypted_are secret message us errors es hs xs ys h.degree em small.len
+      (subst (AreResidues q n (signed_coefficients errors)) (sym drawn_e) (residues_of-are q n (signed_coefficients errors)))
+      (subst (AreResidues q n p) (sym m) (residues_of-are q n p)) x' y'
+      ∙ ap (λ (v : List ℕ). encrypted secret message v errors) drawn_a
+
+-- what scaling and opening give
+pub delta-below : (x : ℕ) → x < plain_modulus → delta x < q
+unfolding delta
+delta-below x l = omega arith
+
+pub scaled_below : (xs : List ℕ) → AreBelow plain_modulus xs → AreBelow q (map delta xs)
+scaled_below xs b k l =
+    let u : k < length xs = omega (arith, length-map xs delta) in
+    subst (λ (v : ℕ). v < q) (sym (get_or-map delta xs k 0 0 u)) (delta-below (get_or xs k 0) (b k u))
+
+pub opened_are : (m : Polynomial) (xs : List ℕ) (k : ℕ) → m.modulus ≡ Plain → AreFilled (length xs) k (λ j. opened (get_or xs j 0)) m.coeffs → k ≡ length xs
+    → m ≡ record { modulus = Plain; coeffs = map opened xs }
+opened_are m xs k e h l i = record { modulus = e i; coeffs = all i }
+  where
+    all : m.coeffs ≡ map opened xs
+    all = ext_get_or 0 m.coeffs (map opened xs) (h.len ∙ sym (length-map xs opened)) (λ j u. h.done j (omega (arith, l, h.len)) ∙ sym (get_or-map opened xs j 0 0 (omega (arith, h.len))))

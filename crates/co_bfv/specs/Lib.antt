@@ -1,0 +1,5 @@
+pub mod Lists
+pub mod Secrets
+pub mod Ciphertexts
+pub mod Draws
+pub mod Encryptions

@@ -1,0 +1,118 @@
+// Ciphertexts: their parts, sums and differences, and products with plain polynomials.
+
+ghost use Rattle.std.specs.Prelude.{ℕ, ℤ, pos, ◌≡◌, ◌+◌, ◌*◌, length, IfOk};
+ghost use Rattle.co_math.specs.Parameters.{plain_half};
+ghost use Rattle.co_math.specs.Polynomials.{IsWrapped, plus, minus, product};
+ghost use Rattle.co_ring.specs.Polynomials.{degree_of};
+ghost use Rattle.co_rns.specs.Residue_pairs.{centred_coefficients};
+ghost use Rattle.co_bfv.specs.Ciphertexts.{IsCiphertext, MeansWithin, ciphertext_degree};
+ghost use Rattle.co_bfv.specs.Ciphertexts.{zero_ciphertext, ciphertext_sum, ciphertext_difference, plain_product};
+
+use co_ring::{Degree, Modulus, Poly};
+use co_rns::Pair;
+use std::alloc::{AllocError, Global};
+use std::marker::Model;
+
+/// A ciphertext: two polynomials modulo X^n + 1 and q.
+#[derive(Drop)]
+pub struct Cipher {
+    c0: Pair,
+    c1: Pair,
+}
+
+impl Model for Cipher {
+    ghost use Rattle.co_bfv.specs.Ciphertexts.{Ciphertext, IsCiphertext};
+
+    ghost Value = { Ciphertext };
+
+    ghost view = { λ c. record { c0 = c.c0; c1 = c.c1 } };
+
+    ghost invariant = { λ c. IsCiphertext (record { c0 = c.c0; c1 = c.c1 }) };
+}
+
+impl Cipher {
+    /// The ciphertext of zeros.
+    pub fn zero(alloc: Global, degree: Degree) -> Result<Cipher, AllocError>
+        ensures value { IfOk result (λ c. c ≡ zero_ciphertext degree) }
+        ensures meaning { IfOk result (λ c. (s : ℤ → ℤ) → MeansWithin s c (λ _. pos 0) 0) }
+        ensures degree { IfOk result (λ c. ciphertext_degree c ≡ degree) }
+    {
+        let _n = degree.get();
+        Ok(Cipher {
+            c0: Pair::zero(alloc, degree)?,
+            c1: Pair::zero(alloc, degree)?,
+        })
+    }
+
+    /// The ciphertext with these two parts.
+    pub fn from_parts(c0: Pair, c1: Pair) -> Cipher
+        requires { length c1 ≡ length c0 }
+        ensures { result ≡ record { c0 = c0; c1 = c1 } }
+    {
+        let _ = c0.degree();
+        let _ = c1.degree();
+        Cipher { c0, c1 }
+    }
+
+    pub fn c0(&self) -> &Pair
+        ensures { result.now ≡ self.now.c0 }
+    {
+        &self.c0
+    }
+
+    pub fn c1(&self) -> &Pair
+        ensures { result.now ≡ self.now.c1 }
+    {
+        &self.c1
+    }
+
+    /// The number of coefficients of each part.
+    pub fn degree(&self) -> usize
+        ensures value { result ≡ ciphertext_degree self.now }
+        ensures ciphertext { IsCiphertext self.now }
+    {
+        self.c0.degree()
+    }
+
+    /// Adds a ciphertext: the messages add up, and so do the bounds of the noise.
+    pub fn add_in(&mut self, other: &Cipher)
+        requires { ciphertext_degree other.now ≡ ciphertext_degree self.old }
+        ensures value { self.new ≡ ciphertext_sum self.old other.now }
+        ensures meaning { (s m₁ m₂ : ℤ → ℤ) (b₁ b₂ : ℕ)
+            → MeansWithin s self.old m₁ b₁ → MeansWithin s other.now m₂ b₂
+            → MeansWithin s self.new (plus m₁ m₂) (b₁ + b₂) }
+        ensures degree { ciphertext_degree self.new ≡ ciphertext_degree self.old }
+    {
+        self.c0.add_in(&other.c0);
+        self.c1.add_in(&other.c1);
+    }
+
+    /// Subtracts a ciphertext: the messages are subtracted, and the bounds of the noise add up.
+    pub fn sub_in(&mut self, other: &Cipher)
+        requires { ciphertext_degree other.now ≡ ciphertext_degree self.old }
+        ensures value { self.new ≡ ciphertext_difference self.old other.now }
+        ensures meaning { (s m₁ m₂ : ℤ → ℤ) (b₁ b₂ : ℕ)
+            → MeansWithin s self.old m₁ b₁ → MeansWithin s other.now m₂ b₂
+            → MeansWithin s self.new (minus m₁ m₂) (b₁ + b₂) }
+        ensures degree { ciphertext_degree self.new ≡ ciphertext_degree self.old }
+    {
+        self.c0.sub_in(&other.c0);
+        self.c1.sub_in(&other.c1);
+    }
+
+    /// The product with a polynomial modulo t, taken with centred coefficients.
+    pub fn mul_plain(&self, alloc: Global, plain: &Poly) -> Result<Cipher, AllocError>
+        requires plain_modulus { plain.now.modulus ≡ Modulus.Plain }
+        requires one_degree { degree_of plain.now ≡ ciphertext_degree self.now }
+        ensures value { IfOk result (λ c. c ≡ plain_product self.now plain.now.coeffs) }
+        ensures meaning { IfOk result (λ c. let n = ciphertext_degree self.now in
+            (s m : ℤ → ℤ) (b : ℕ) → IsWrapped n s → MeansWithin s self.now m b
+            → MeansWithin s c (product n (centred_coefficients plain.now.coeffs) m) (n * plain_half * b)) }
+        ensures degree { IfOk result (λ c. ciphertext_degree c ≡ ciphertext_degree self.now) }
+    {
+        Ok(Cipher {
+            c0: self.c0.mul_plain(alloc, plain)?,
+            c1: self.c1.mul_plain(alloc, plain)?,
+        })
+    }
+}

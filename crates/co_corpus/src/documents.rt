@@ -1,0 +1,56 @@
+// Documents, and lists of them that make a corpus.
+ghost use Rattle.std.specs.Prelude.{◌≡◌};
+ghost use Rattle.co_corpus.specs.Documents.{IsCorpus};
+
+use co_link::Bytes;
+use co_text::Title;
+use std::marker::Model;
+
+/// The most documents of a corpus.
+pub const MAX_DOCUMENTS: usize = 65_536;
+
+/// The most bytes of a document's text.
+pub const MAX_TEXT: usize = 4_194_304;
+
+/// A title, as its type keeps it, and a text.
+#[derive(Debug, Drop)]
+pub struct Document {
+    pub title: Title,
+    pub text: Bytes,
+}
+
+/// 1 to 65,536 documents, each text UTF-8 of at most 4,194,304 bytes. A document's number is its place, from 0.
+#[derive(Debug, Drop)]
+pub struct Corpus {
+    inner: Vec<Document>,
+}
+
+impl Model for Corpus {
+    ghost use Rattle.std.specs.Prelude.{List};
+    ghost use Rattle.co_corpus.specs.declared.documents.Document.{Document};
+    ghost use Rattle.co_corpus.specs.Documents.{IsCorpus};
+
+    ghost Value = { List Document };
+
+    ghost view = { λ c. c.inner.items };
+
+    ghost invariant = { λ c. IsCorpus c.inner.items };
+}
+
+impl Corpus {
+    /// The corpus of these documents, with no copy.
+    pub fn new(documents: Vec<Document>) -> Self
+        requires { IsCorpus documents.items }
+        ensures { result ≡ documents.items }
+    {
+        Corpus { inner: documents }
+    }
+
+    /// The documents in order.
+    pub fn as_slice(&self) -> &[Document]
+        ensures value { result.now ≡ self.now }
+        ensures corpus { IsCorpus self.now }
+    {
+        self.inner.as_slice()
+    }
+}

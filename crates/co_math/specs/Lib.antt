@@ -1,0 +1,11 @@
+pub mod Parameters
+pub mod Sums
+pub mod Residues
+pub mod Polynomials
+pub mod Powers
+pub mod Values
+pub mod Exponents
+pub mod Meanings
+pub mod Expansions
+pub mod Coefficients
+pub mod Bounds

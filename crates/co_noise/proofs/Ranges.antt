@@ -1,0 +1,134 @@
+-- What a shape's ranges say, by orders.
+use Rattle.std.proofs.Common.{◌≡◌, ℕ, zero, suc, ◌+◌, ◌-◌, ◌*◌, ◌/◌, ◌%◌, ◌^◌, ◌<◌, ◌≤◌, Bool, true, false, refl, sym, subst, inl, inr, ◌⊎◌, arith, max}
+use Rattle.std.specs.Prelude.{IsTrue, ◌&&◌, ◌||◌, ◌==◌, nat_le}
+use Rattle.std.proofs.lemmas.Bool.{eqb-true, leb-true}
+use Rattle.std.specs.Int.{div_ceil}
+use Rattle.std.proofs.lemmas.Grind.{div_ceil_times}
+use Rattle.std.proofs.Math.Nat.{mul-le-mul, mul-le-mul_left, mul-le-mul_right, pow-le-pow_right}
+use Rattle.co_math.specs.Coefficients.{IsDegree}
+use Rattle.co_noise.specs.Shapes.{Numbers, HasRanges, is_degree, is_within, is_chunk_count, are_in_range}
+
+pub both : (a b : Bool) → IsTrue (a && b) → IsTrue a × IsTrue b
+both true b h = (refl, h)
+both false b h = absurd cc
+
+either : (a b : Bool) → IsTrue (a || b) → IsTrue a ⊎ IsTrue b
+either true b h = inl refl
+either false b h = inr h
+
+-- what a degree tells
+pub record Degree (n : ℕ) : Type 0 where
+  pub degree : IsDegree n
+  pub low : 16 ≤ n
+  pub high : n ≤ 4096
+  pub even : 2 * (n / 2) ≡ n
+
+power_degree : (n d e : ℕ) → 4 ≤ e → e ≤ 12 → d ≡ 2 ^ e → 16 ≤ d → d ≤ 4096 → 2 * (d / 2) ≡ d → IsTrue (n == d) → Degree n
+power_degree n d e least most is low high even h =
+    subst Degree (sym (eqb-true n d h)) (record { degree = record { exponent = e; least = least; most = most; is = is }; low = low; high = high; even = even })
+
+last : (n d e : ℕ) (b : Bool) → 4 ≤ e → e ≤ 12 → d ≡ 2 ^ e → 16 ≤ d → d ≤ 4096 → 2 * (d / 2) ≡ d → (IsTrue b → Degree n) → IsTrue (b || (n == d)) → Degree n
+last n d e b least most is low high even before h = elim (either b (n == d) h) [ inl x ↦ before x | inr x ↦ power_degree n d e least most is low high even x ]
+
+pub degree_ranges : (n : ℕ) → IsTrue (is_degree n) → Degree n
+degree_ranges n h =
+    last n 4096 12 _ (omega arith) (omega arith) refl (omega arith) (omega arith) refl (
+    last n 2048 11 _ (omega arith) (omega arith) refl (omega arith) (omega arith) refl (
+    last n 1024 10 _ (omega arith) (omega arith) refl (omega arith) (omega arith) refl (
+    last n 512 9 _ (omega arith) (omega arith) refl (omega arith) (omega arith) refl (
+    last n 256 8 _ (omega arith) (omega arith) refl (omega arith) (omega arith) refl (
+    last n 128 7 _ (omega arith) (omega arith) refl (omega arith) (omega arith) refl (
+    last n 64 6 _ (omega arith) (omega arith) refl (omega arith) (omega arith) refl (
+    last n 32 5 _ (omega arith) (omega arith) refl (omega arith) (omega arith) refl (
+    power_degree n 16 4 (omega arith) (omega arith) refl (omega arith) (omega arith) refl))))))))
+    h
+
+below : (a b : ℕ) → IsTrue (nat_le a b) → a ≤ b
+below a b h = leb-true a b h
+
+pub within : (low high n : ℕ) → IsTrue (is_within low high n) → (low ≤ n) × (n ≤ high)
+within low high n h = let p = both (nat_le low n) (nat_le n high) h in (below low n p.0, below n high p.1)
+
+pub ranges : (s : Numbers) → IsTrue (are_in_range s) → HasRanges s
+ranges s h =
+    let p7 = both _ (is_chunk_count s.degree s.chunks) h in
+    let p6 = both _ (is_within 1 65536 s.bins) p7.0 in
+    let p5 = both _ (is_within 1 65536 s.rows) p6.0 in
+    let p4 = both _ (is_within 0 4294967295 s.salt) p5.0 in
+    let p3 = both _ (is_within 1 64 s.hits) p4.0 in
+    let p2 = both _ (is_within 0 131072 s.terms) p3.0 in
+    let p1 = both (is_degree s.degree) (is_within 1 65536 s.documents) p2.0 in
+    let chunks = both (is_within 1 131072 s.chunks) (nat_le (s.chunks * (2 * s.degree)) 4194304) p7.1 in
+    let d = degree_ranges s.degree p1.0 in
+    let documents = within 1 65536 s.documents p1.1 in
+    let terms = within 0 131072 s.terms p2.1 in
+    let hits = within 1 64 s.hits p3.1 in
+    let salt = within 0 4294967295 s.salt p4.1 in
+    let rows = within 1 65536 s.rows p5.1 in
+    let bins = within 1 65536 s.bins p6.1 in
+    let range = within 1 131072 s.chunks chunks.0 in
+    record {
+      degree = d.degree;
+      degree_low = d.low;
+      degree_high = d.high;
+      degree_even = d.even;
+      documents_low = documents.0;
+      documents_high = documents.1;
+      terms_high = terms.1;
+      hits_low = hits.0;
+      hits_high = hits.1;
+      salt_high = omega (arith, salt.1);
+      rows_low = rows.0;
+      rows_high = rows.1;
+      bins_low = bins.0;
+      bins_high = bins.1;
+      chunks_low = range.0;
+      chunks_high = range.1;
+      bin_high = below (s.chunks * (2 * s.degree)) 4194304 chunks.1;
+    }
+
+-- ---- bounds of noise
+
+few_blocks : (k h terms : ℕ) → k * h < terms + h → terms ≤ 131072 → 8 ≤ h → k ≤ 16384
+few_blocks zero h terms lt few wide = omega arith
+few_blocks (suc m) h terms lt few wide = omega (arith, mul-le-mul_left m wide)
+
+pub blocks_few : (terms degree : ℕ) → terms ≤ 131072 → 16 ≤ degree → max 1 (div_ceil terms (degree / 2)) ≤ 16384
+blocks_few terms degree few wide =
+    let half : 8 ≤ degree / 2 = omega arith in
+    let times = div_ceil_times terms (degree / 2) (omega arith) in
+    let k = few_blocks (div_ceil terms (degree / 2)) (degree / 2) terms times.1 few half in
+    omega arith
+
+pub powers_small : (l : ℕ) → l ≤ 16 → 2 ^ l ≤ 65536
+powers_small l le = let two : 0 < 2 = omega arith in pow-le-pow_right {n = 2} two {i = l} {j = 16} le
+
+-- the product of five numbers by their bounds, with a factor 32768
+product_bound : (a b d x y e : ℕ) → a ≤ x → b ≤ y → d ≤ e → a * b * 32768 * d ≤ x * y * 32768 * e
+product_bound a b d x y e pa pb pd =
+    let ab : a * b ≤ x * y = mul-le-mul pa pb in
+    let abc : a * b * 32768 ≤ x * y * 32768 = mul-le-mul_right 32768 ab in
+    mul-le-mul abc pd
+
+pub score_small : (k h n f l s : ℕ) → k ≤ 16384 → h ≤ 2048 → n ≤ 4096 → f ≡ 1409045 → l ≤ 16 → s < 2 ^ 52 → k * h * n * 32768 * (f + l * s) < 2 ^ 112
+score_small k h n f l s pk ph pn pf pl ps =
+    let kh : k * h ≤ 16384 * 2048 = mul-le-mul pk ph in
+    let se : s ≤ 2 ^ 52 = omega arith in
+    let ls : l * s ≤ 16 * 2 ^ 52 = mul-le-mul pl se in
+    let d : f + l * s ≤ 2 ^ 57 = omega arith in
+    let all = product_bound (k * h) n (f + l * s) (16384 * 2048) 4096 (2 ^ 57) kh pn d in
+    omega (arith, all)
+
+pub retrieve_small : (i n f l s : ℕ) → i ≤ 65536 → n ≤ 4096 → f ≡ 1409045 → l ≤ 16 → s < 2 ^ 52
+    → i * n * 32768 * ((1 * 2 ^ l) % 2 ^ 128 * f + ((1 * 2 ^ l) % 2 ^ 128 - 1) * s) < 2 ^ 112
+retrieve_small i n f l s pi pn pf pl ps =
+    let small = powers_small l pl in
+    let p : (1 * 2 ^ l) % 2 ^ 128 ≤ 65536 = omega arith in
+    let fe : f ≤ 1409045 = omega arith in
+    let pf2 : (1 * 2 ^ l) % 2 ^ 128 * f ≤ 65536 * 1409045 = mul-le-mul p fe in
+    let p1 : (1 * 2 ^ l) % 2 ^ 128 - 1 ≤ 65535 = omega arith in
+    let se : s ≤ 2 ^ 52 = omega arith in
+    let ps2 : ((1 * 2 ^ l) % 2 ^ 128 - 1) * s ≤ 65535 * 2 ^ 52 = mul-le-mul p1 se in
+    let d : (1 * 2 ^ l) % 2 ^ 128 * f + ((1 * 2 ^ l) % 2 ^ 128 - 1) * s ≤ 2 ^ 68 = omega (arith, pf2, ps2) in
+    let all = product_bound i n ((1 * 2 ^ l) % 2 ^ 128 * f + ((1 * 2 ^ l) % 2 ^ 128 - 1) * s) 65536 4096 (2 ^ 68) pi pn d in
+    omega (arith, all)

@@ -1,0 +1,3 @@
+pub mod Shapes
+pub mod Bounds
+pub use Rattle.co_math.specs.Parameters

@@ -1,0 +1,6 @@
+-- The lemmas of the crate.
+pub mod Placing
+pub mod Keys
+pub mod Packed
+pub mod Sizes
+pub mod Spelling

@@ -1,0 +1,5 @@
+pub mod Composing
+pub mod Wholes
+pub mod Digits
+pub mod Centring
+pub mod Parting

@@ -1,0 +1,125 @@
+// Coefficients modulo q, from and to their residues.
+
+ghost use Rattle.std.specs.Prelude.{◌≡◌, ◌+◌, ◌*◌, ◌/◌, ◌<◌, ◌%◌, ◌^◌, length, slice_index, pos, IfOk};
+ghost use Rattle.co_math.specs.Parameters.{first_modulus, second_modulus, plain_modulus, digit_base, digit_count, q};
+ghost use Rattle.co_math.specs.Residues.{residue};
+ghost use Rattle.co_math.specs.Meanings.{centred as centred_of};
+ghost use Rattle.co_ring.specs.Moduli.{value_of};
+ghost use Rattle.co_ring.specs.Polynomials.{degree_of, IsPoly};
+ghost use Rattle.co_rns.specs.Residue_pairs.{composed, all_composed, AreResiduesOf, AreDigits, centred_coefficients};
+
+use co_math::parameters::{
+    DIGIT_BASE, DIGIT_BITS, FIRST_MODULUS, INVERSE_OF_FIRST, PLAIN_MODULUS, SECOND_MODULUS,
+};
+use co_ring::numbers::{multiply, subtract};
+use co_ring::{Degree, Modulus, Poly};
+use std::alloc::{AllocError, Global};
+
+/// The number below q with these residues.
+pub fn compose(first: u64, second: u64) -> u128
+    requires first { first < first_modulus }
+    requires second { second < second_modulus }
+    ensures value { result ≡ composed first second }
+    ensures reduced { result < q }
+{
+    let times = multiply(
+        subtract(second, first, SECOND_MODULUS),
+        INVERSE_OF_FIRST,
+        SECOND_MODULUS,
+    );
+    first as u128 + FIRST_MODULUS as u128 * times as u128
+}
+
+/// The residues of a polynomial modulo q.
+pub fn reduce(
+    alloc: Global,
+    modulus: Modulus,
+    degree: Degree,
+    coeffs: &[u128],
+) -> Result<Poly, AllocError>
+    requires { length coeffs.now ≡ degree }
+    ensures modulus { IfOk result (λ p. p.modulus ≡ modulus) }
+    ensures coeffs { IfOk result (λ p. AreResiduesOf (value_of modulus) coeffs.now p.coeffs) }
+{
+    let mut poly = Poly::zero(alloc, modulus, degree)?;
+    let m = modulus.value() as u128;
+    for k in 0..coeffs.len() {
+        poly.set(k, (coeffs[k] % m) as u64);
+    }
+    Ok(poly)
+}
+
+/// A digit of a number.
+pub fn digit_of(coefficient: u128, index: u32) -> u64
+    requires { index < digit_count }
+    ensures value { result ≡ coefficient / digit_base ^ index % digit_base }
+    ensures small { result < digit_base }
+{
+    ((coefficient >> (DIGIT_BITS * index)) % DIGIT_BASE as u128) as u64
+}
+
+/// The coefficient at a place, from its residues.
+pub fn compose_at(first: &Poly, second: &Poly, at: usize) -> u128
+    requires first_modulus { first.now.modulus ≡ Modulus.First }
+    requires second_modulus { second.now.modulus ≡ Modulus.Second }
+    requires one_degree { degree_of second.now ≡ degree_of first.now }
+    requires in_range { at < degree_of first.now }
+    ensures value { result ≡ slice_index (all_composed first.now.coeffs second.now.coeffs) at }
+    ensures reduced { result < q }
+{
+    compose(first.coeff(at), second.coeff(at))
+}
+
+/// The digits of each coefficient, which are their own residues.
+pub fn write_digits(
+    first: &Poly,
+    second: &Poly,
+    index: u32,
+    into_first: &mut Poly,
+    into_second: &mut Poly,
+)
+    requires index { index < digit_count }
+    requires first_modulus { first.now.modulus ≡ Modulus.First }
+    requires second_modulus { second.now.modulus ≡ Modulus.Second }
+    requires one_degree { degree_of second.now ≡ degree_of first.now }
+    requires into_first_modulus { into_first.old.modulus ≡ Modulus.First }
+    requires into_second_modulus { into_second.old.modulus ≡ Modulus.Second }
+    requires into_first_degree { degree_of into_first.old ≡ degree_of first.now }
+    requires into_second_degree { degree_of into_second.old ≡ degree_of first.now }
+    ensures first_modulus_after { into_first.new.modulus ≡ Modulus.First }
+    ensures second_modulus_after { into_second.new.modulus ≡ Modulus.Second }
+    ensures first_digits { AreDigits digit_base index (all_composed first.now.coeffs second.now.coeffs) into_first.new.coeffs }
+    ensures second_digits { AreDigits digit_base index (all_composed first.now.coeffs second.now.coeffs) into_second.new.coeffs }
+{
+    for k in 0..first.degree() {
+        let digit = digit_of(compose_at(first, second, k), index);
+        into_first.set(k, digit);
+        into_second.set(k, digit);
+    }
+}
+
+/// A coefficient modulo t as the number of least absolute value, modulo m.
+pub fn centre(value: u64, m: u64) -> u64
+    requires reduced { value < plain_modulus }
+    requires room { 65536 < m }
+    ensures { result ≡ residue m (centred_of plain_modulus (pos value)) }
+{
+    if value <= 32768 {
+        value
+    } else {
+        value + (m - PLAIN_MODULUS)
+    }
+}
+
+/// A polynomial modulo t with its centred coefficients, modulo m.
+pub fn centred(alloc: Global, plain: &Poly, modulus: Modulus) -> Result<Poly, AllocError>
+    requires { plain.now.modulus ≡ Modulus.Plain }
+    ensures { IfOk result (IsPoly modulus (degree_of plain.now) (centred_coefficients plain.now.coeffs)) }
+{
+    let mut poly = Poly::zero(alloc, modulus, plain.shape())?;
+    let m = modulus.value();
+    for k in 0..plain.degree() {
+        poly.set(k, centre(plain.coeff(k), m));
+    }
+    Ok(poly)
+}

@@ -1,0 +1,10 @@
+pub mod Counts
+pub mod Weight
+pub mod Order
+pub mod Vocabulary
+pub mod Postings
+pub mod Tables
+pub mod Entries
+pub mod Scores
+pub mod Hits
+pub mod Found

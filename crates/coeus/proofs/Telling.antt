@@ -1,0 +1,49 @@
+-- A refusal that was told, by its command.
+use Rattle.std.proofs.Common.{◌≡◌, ◌≢◌, ℕ, List, Option, Some, None, sym, ap, subst, ⊎_elim, String}
+use Rattle.co_link.specs.Files.{Folder}
+use Rattle.co_noise.specs.Shapes.{Numbers}
+use Rattle.coeus.specs.declared.refusals.Refusal.{Refusal}
+use Rattle.coeus.specs.declared.refusals.Refusal.TheVariants.{Output, Memory}
+use Rattle.coeus.specs.Words.{Spoken, SpokenPlain, SpokenShape, PlainWords, plain_words, shape_words, first_spoken, spoken}
+use Rattle.coeus.specs.Refusals.{Told}
+use Rattle.coeus.specs.Shows.{SaysFault}
+use Rattle.coeus.specs.Answers.{Run, Outputs, Answered, Refused, Cause, Leaves}
+
+-- what was told is a refusal with the same cause and the same rest on the output, or want of memory with both
+pub told : (command : Option Spoken) (words : List (List ℕ)) (run : Run) (outputs : Outputs) (refusal : Refusal) (status : ℕ)
+    → Cause command run refusal → Leaves command run.held outputs.out_was outputs.out_is refusal
+    → (refusal ≢ Output → Cause command run Memory × Leaves command run.held outputs.out_was outputs.out_is Memory)
+    → Told words refusal outputs.err_before outputs.err_now outputs.err_was outputs.err_is status
+    → Refused command words run outputs status
+told command words run outputs refusal status cause leaves memory t = record {
+  refusal = t.told;
+  status_is = t.status_is;
+  cause = ⊎_elim (λ same. subst (Cause command run) (sym same) cause) (λ m. subst (Cause command run) (sym m.0) (memory m.1).0) t.which;
+  leaves = ⊎_elim (λ same. subst (Leaves command run.held outputs.out_was outputs.out_is) (sym same) leaves)
+      (λ m. subst (Leaves command run.held outputs.out_was outputs.out_is) (sym m.0) (memory m.1).1) t.which;
+  says = t.says;
+}
+
+-- the same answer, and the same refusal, of a command that is equal
+pub answered_as : {a b : Option Spoken} {held : Option Folder} {outputs : Outputs} → b ≡ a → Answered a held outputs → Answered b held outputs
+answered_as {a} {b} {held} {outputs} e answered = subst (λ (s : Option Spoken). Answered s held outputs) (sym e) answered
+
+pub refused_as : {a b : Option Spoken} {words : List (List ℕ)} {run : Run} {outputs : Outputs} {status : ℕ} → b ≡ a → Refused a words run outputs status → Refused b words run outputs status
+refused_as {a} {b} {words} {run} {outputs} {status} e refused = subst (λ (s : Option Spoken). Refused s words run outputs status) (sym e) refused
+
+-- which command the words speak
+pub plain_spoken : (words : List (List ℕ)) (p : PlainWords) → plain_words words ≡ Some p → spoken words ≡ Some (SpokenPlain p)
+unfolding spoken
+plain_spoken words p e = ap (λ o. first_spoken o (shape_words words)) e
+
+pub shape_spoken : (words : List (List ℕ)) (s : Numbers) → plain_words words ≡ None → shape_words words ≡ Some s → spoken words ≡ Some (SpokenShape s)
+unfolding spoken
+shape_spoken words s other e = λ i. first_spoken (other i) (e i)
+
+pub none_spoken : (words : List (List ℕ)) → plain_words words ≡ None → shape_words words ≡ None → spoken words ≡ None
+unfolding spoken
+none_spoken words other neither = λ i. first_spoken (other i) (neither i)
+
+-- the line of a shape's fault, where there is one
+pub says_fault : {Y : Type 0} (words : List (List ℕ)) (s : Numbers) (told : Option (String Y)) (line : String Y) → told ≡ Some line → SaysFault words s told → SaysFault words s (Some line)
+says_fault {Y} words s told line e says = subst (λ (l : Option (String Y)). SaysFault words s l) e says

@@ -1,0 +1,196 @@
+// Numbers and options among the words of the command line.
+ghost use Rattle.std.specs.Prelude.{◌≡◌, ◌≤◌, ◌<◌, ◌^◌, string_bytes, map, Some, option_map, true, length};
+ghost use Rattle.std.specs.Char.{is_ascii_digit};
+ghost use Rattle.std.specs.List.{list_all};
+ghost use Rattle.std.specs.Str.Parse.{digits_value};
+ghost use Rattle.coeus.specs.Words.{are_digits, number, once, with_option, no_options, rest_of, pick_alone};
+ghost use Rattle.coeus.specs.Commands.{rest_shown};
+ghost use Rattle.coeus.specs.Next.{next_shown, words_left};
+
+/// The options that were given, each with its number.
+#[derive(Clone, Copy)]
+pub struct Options {
+    pub degree: Option<u32>,
+    pub terms: Option<u32>,
+    pub hits: Option<u32>,
+    pub salt: Option<u32>,
+    pub chunks: Option<u32>,
+    pub pick: Option<u32>,
+}
+
+/// Options, and the query words behind `--`, where there is that word.
+#[derive(Clone, Copy)]
+pub struct OptionsAndQuery<'a> {
+    pub options: Options,
+    pub query: Option<&'a [String]>,
+}
+
+// Whether each byte is a digit.
+fn all_digits(word: &[u8]) -> bool
+    ensures { result ≡ list_all is_ascii_digit word.now }
+{
+    word.iter().all(|digit| digit.is_ascii_digit())
+}
+
+// Whether there are 1 to 10 bytes, and each is a digit.
+fn are_digits(word: &[u8]) -> bool
+    ensures { result ≡ are_digits word.now }
+{
+    if word.is_empty() || word.len() > 10 {
+        return false;
+    }
+    all_digits(word)
+}
+
+// The number that at most ten digits write.
+fn value_of(digits: &[u8]) -> u64
+    requires { are_digits digits.now ≡ true }
+    ensures { result ≡ digits_value 10 digits.now }
+{
+    let mut value = 0u64;
+    for digit in digits {
+        value = value * 10 + (*digit - b'0') as u64;
+    }
+    value
+}
+
+/// The number that a word writes, with 1 to 10 digits; leading zeros are allowed.
+#[tactic(auto, unfolding(crate::specs::Words::number))]
+pub fn read_number(word: &str) -> Option<u32>
+    ensures { result ≡ number word.now }
+{
+    let digits = word.as_bytes();
+    if !are_digits(digits) {
+        return None;
+    }
+    u32::try_from(value_of(digits)).ok()
+}
+
+// The number of an option that is given once.
+fn once(before: Option<u32>, value: &str) -> Option<u32>
+    ensures { result ≡ once before value.now }
+{
+    if before.is_some() {
+        return None;
+    }
+    read_number(value)
+}
+
+impl Options {
+    fn none() -> Self
+        ensures { result ≡ no_options }
+    {
+        Options {
+            degree: None,
+            terms: None,
+            hits: None,
+            salt: None,
+            chunks: None,
+            pick: None,
+        }
+    }
+
+    // The options with one more, by its name and value.
+    #[tactic(auto, unfolding(crate::specs::Words::with_option))]
+    fn with(self, name: &str, value: &str) -> Option<Self>
+        ensures { result ≡ with_option self name.now value.now }
+    {
+        if name == "--degree" {
+            let degree = Some(once(self.degree, value)?);
+            return Some(Options { degree, ..self });
+        }
+        if name == "--terms" {
+            let terms = Some(once(self.terms, value)?);
+            return Some(Options { terms, ..self });
+        }
+        if name == "--hits" {
+            let hits = Some(once(self.hits, value)?);
+            return Some(Options { hits, ..self });
+        }
+        if name == "--salt" {
+            let salt = Some(once(self.salt, value)?);
+            return Some(Options { salt, ..self });
+        }
+        if name == "--chunks" {
+            let chunks = Some(once(self.chunks, value)?);
+            return Some(Options { chunks, ..self });
+        }
+        if name == "--pick" {
+            let pick = Some(once(self.pick, value)?);
+            return Some(Options { pick, ..self });
+        }
+        None
+    }
+}
+
+impl Options {
+    /// The pick, 1 to 64, or else 1, where no other option was given.
+    pub fn pick_alone(self) -> Option<u32>
+        ensures { result ≡ pick_alone self }
+    {
+        if self.degree.is_some() {
+            return None;
+        }
+        if self.terms.is_some() {
+            return None;
+        }
+        if self.hits.is_some() {
+            return None;
+        }
+        if self.salt.is_some() {
+            return None;
+        }
+        if self.chunks.is_some() {
+            return None;
+        }
+        let pick = self.pick.unwrap_or(1);
+        if pick < 1 || pick > 64 {
+            return None;
+        }
+        Some(pick)
+    }
+}
+
+// What stands at the front of the words that are left.
+#[derive(Clone, Copy)]
+enum Next<'a> {
+    End(OptionsAndQuery<'a>),
+    More(Options, &'a [String]),
+    Wrong,
+}
+
+// Reads one option, or `--` and the query, or the end.
+fn read_next(options: Options, words: &[String]) -> Next<'_>
+    ensures value { next_shown result ≡ rest_of options (map string_bytes words.now) }
+    ensures shorter { words_left result ≤ length words.now }
+{
+    match words {
+        [] => Next::End(OptionsAndQuery {
+            options,
+            query: None,
+        }),
+        [dashes, query @ ..] if dashes.as_str() == "--" => Next::End(OptionsAndQuery {
+            options,
+            query: Some(query),
+        }),
+        [name, value, left @ ..] => match options.with(name.as_str(), value.as_str()) {
+            Some(options) => Next::More(options, left),
+            None => Next::Wrong,
+        },
+        _ => Next::Wrong,
+    }
+}
+
+/// Reads options in any order, each at most once, and the query behind `--`.
+pub fn read_options(words: &[String]) -> Option<OptionsAndQuery<'_>>
+    ensures { option_map rest_shown result ≡ rest_of no_options (map string_bytes words.now) }
+{
+    let mut next = read_next(Options::none(), words);
+    while let Next::More(options, left) = next {
+        next = read_next(options, left);
+    }
+    match next {
+        Next::End(rest) => Some(rest),
+        _ => None,
+    }
+}
