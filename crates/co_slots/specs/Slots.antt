@@ -15,6 +15,7 @@ exponent_of n p = if nat_lt p (n / 2) then residue (2 * n) (power (pos 3) p) els
 unfoldable pub slot : List ℕ → ℕ → ℕ
 slot xs p = residue plain_modulus (value_at (length xs) (coefficients xs) (power (pos (root plain_modulus (length xs))) (exponent_of (length xs) p)))
 
+-- the slots of a polynomial, the first row before the second
 pub record AreSlots (coeffs slots : List ℕ) : Type 0 where
   pub len : length slots ≡ length coeffs
   pub each : (p : ℕ) → p < length coeffs → slice_index slots p ≡ slot coeffs p
@@ -24,6 +25,7 @@ pub record AreRootPowers (n count : ℕ) (xs : List ℕ) : Type 0 where
   pub len : length xs ≡ count
   pub each : (i : ℕ) → i < count → slice_index xs i ≡ residue plain_modulus (power (pos (root plain_modulus n)) i)
 
+-- the exponents of the first slots
 pub record AreExponents (n count : ℕ) (xs : List ℕ) : Type 0 where
   pub len : length xs ≡ count
   pub each : (p : ℕ) → p < count → slice_index xs p ≡ exponent_of n p

@@ -11,42 +11,32 @@ ghost use Rattle.co_slots.specs.Payloads.{IsPayload};
 
 /// No two polynomials have the same slots.
 pub fn one_polynomial()
-    ensures {
-        (xs ys slots : List ℕ) → IsDegree (length xs) → AreBelow plain_modulus xs → AreBelow plain_modulus ys
-            → AreSlots xs slots → AreSlots ys slots → xs ≡ ys
-    }
+    ensures { (xs ys slots : List ℕ) → IsDegree (length xs) → AreBelow plain_modulus xs → AreBelow plain_modulus ys
+        → AreSlots xs slots → AreSlots ys slots → xs ≡ ys }
 {}
 
 /// The slots of a sum are the sums of the slots.
 pub fn sums()
-    ensures {
-        (xs ys zs : List ℕ) (p : ℕ) → length ys ≡ length xs
-            → AreResidues plain_modulus (length xs) (plus (coefficients xs) (coefficients ys)) zs
-            → slot zs p ≡ (slot xs p + slot ys p) % plain_modulus
-    }
+    ensures { (xs ys zs : List ℕ) (p : ℕ) → length ys ≡ length xs
+        → AreResidues plain_modulus (length xs) (plus (coefficients xs) (coefficients ys)) zs
+        → slot zs p ≡ (slot xs p + slot ys p) % plain_modulus }
 {}
 
 /// The slots of a negacyclic product are the products of the slots.
 pub fn products()
-    ensures {
-        (xs ys zs : List ℕ) (p : ℕ) → IsDegree (length xs) → length ys ≡ length xs
-            → AreResidues plain_modulus (length xs) (product (length xs) (coefficients xs) (coefficients ys)) zs
-            → slot zs p ≡ slot xs p * slot ys p % plain_modulus
-    }
+    ensures { (xs ys zs : List ℕ) (p : ℕ) → IsDegree (length xs) → length ys ≡ length xs
+        → AreResidues plain_modulus (length xs) (product (length xs) (coefficients xs) (coefficients ys)) zs
+        → slot zs p ≡ slot xs p * slot ys p % plain_modulus }
 {}
 
 /// X to X^(3^i) moves slot j + i modulo n/2 to slot j in both rows.
 pub fn turns()
-    ensures first_row {
-        (i j : ℕ) (xs ys : List ℕ) → IsDegree (length xs)
-            → IsSubstituted plain_modulus (residue (2 * length xs) (power (pos 3) i)) xs ys → j < length xs / 2
-            → slot ys j ≡ slot xs ((j + i) % (length xs / 2))
-    }
-    ensures second_row {
-        (i j : ℕ) (xs ys : List ℕ) → IsDegree (length xs)
-            → IsSubstituted plain_modulus (residue (2 * length xs) (power (pos 3) i)) xs ys → j < length xs / 2
-            → slot ys (length xs / 2 + j) ≡ slot xs (length xs / 2 + (j + i) % (length xs / 2))
-    }
+    ensures first_row { (i j : ℕ) (xs ys : List ℕ) → IsDegree (length xs)
+        → IsSubstituted plain_modulus (residue (2 * length xs) (power (pos 3) i)) xs ys → j < length xs / 2
+        → slot ys j ≡ slot xs ((j + i) % (length xs / 2)) }
+    ensures second_row { (i j : ℕ) (xs ys : List ℕ) → IsDegree (length xs)
+        → IsSubstituted plain_modulus (residue (2 * length xs) (power (pos 3) i)) xs ys → j < length xs / 2
+        → slot ys (length xs / 2 + j) ≡ slot xs (length xs / 2 + (j + i) % (length xs / 2)) }
 {}
 
 /// A payload's bytes give its coefficients, and its coefficients give its bytes.

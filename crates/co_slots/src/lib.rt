@@ -1,6 +1,11 @@
 //! Polynomials modulo t as slots, and as payload bytes.
 //!
-//! Slots are the values at powers of the root of -1; a payload has two bytes a coefficient.
+//! Slot (0, j) is the value at zeta^(3^j) and slot (1, j) that at zeta^(-3^j), where zeta is
+//! the root modulo t and 0 <= j < n/2; a list of slots has the first row before the second.
+//! A payload has two bytes a coefficient, the high byte first.
+//! `encode_slots` gives the one polynomial that has the slots, `decode_slots` its slots;
+//! `laws` has what sums, products and substitutions do to slots, and that slots and bytes
+//! each belong to one polynomial.
 //! Not here: what the slots are used for (co_matvec), which bytes are sent (co_pir).
 #![tactic(auto)]
 
@@ -10,3 +15,6 @@ pub mod slots;
 
 pub use payloads::{ByteFault, decode_bytes, encode_bytes};
 pub use slots::{decode_slots, encode_slots};
+
+#[cfg(test)]
+mod tests;

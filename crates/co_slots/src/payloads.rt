@@ -16,10 +16,12 @@ pub enum ByteFault {
     /// The coefficient at this place is the first that is 65536.
     #[error("no bytes at coefficient {place}")]
     NotByte { place: u32 },
+    /// There is no room for the bytes.
     #[error("out of memory")]
     OutOfMemory,
 }
 
+/// The polynomial of 2n bytes.
 pub fn encode_bytes(alloc: Global, degree: Degree, bytes: &[u8]) -> Result<Poly, AllocError>
     requires { length bytes.now ≡ 2 * degree }
     ensures modulus { IfOk result (λ p. p.modulus ≡ Modulus.Plain) }
@@ -36,6 +38,8 @@ pub fn encode_bytes(alloc: Global, degree: Degree, bytes: &[u8]) -> Result<Poly,
 
 ghost use Rattle.co_slots.specs.Faults.{IsCause};
 
+/// The 2n bytes of a polynomial, or the first place that is no two bytes. Want of memory may
+/// come in place of a later fault.
 pub fn decode_bytes(alloc: Global, poly: &Poly) -> Result<Bytes, ByteFault>
     requires { poly.now.modulus ≡ Modulus.Plain }
     ensures bytes { IfOk result (λ bytes. IsPayload bytes poly.now.coeffs) }

@@ -28,6 +28,7 @@ fn exponent(n: usize, p: usize) -> u64
     }
 }
 
+/// The exponents of all slots, in order.
 fn exponents(alloc: Global, n: usize) -> Result<Vec<u64>, AllocError>
     requires { IsDegree n }
     ensures { IfOk result (λ v. AreExponents n n v.items) }
@@ -39,6 +40,7 @@ fn exponents(alloc: Global, n: usize) -> Result<Vec<u64>, AllocError>
     Ok(all)
 }
 
+/// The powers of the root, over a whole turn.
 fn root_powers(alloc: Global, degree: Degree) -> Result<Vec<u64>, AllocError>
     ensures { IfOk result (λ v. AreRootPowers degree (2 * degree) v.items) }
 {
@@ -103,6 +105,7 @@ pub fn encode_slots(alloc: Global, degree: Degree, values: &[u64]) -> Result<Pol
     Ok(poly)
 }
 
+/// The slots of a polynomial, the first row before the second.
 pub fn decode_slots(alloc: Global, poly: &Poly) -> Result<Vec<u64>, AllocError>
     requires { poly.now.modulus ≡ Modulus.Plain }
     ensures { IfOk result (λ v. AreSlots poly.now.coeffs v.items) }

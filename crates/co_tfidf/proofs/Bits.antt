@@ -31,3 +31,11 @@ bits_is d f r le reached over = highest_is 64 r _ le (le-leb _ _ reached) (λ k 
     let more : 2 ^ (r + 1) * f ^ 4 ≤ 2 ^ k * f ^ 4 = mul-le-mul_right (f ^ 4) (pow-le-pow_right two up) in
     let below : d ^ 4 < 2 ^ k * f ^ 4 = omega arith in
     lt-leb _ _ below)
+
+-- what passes at the next number passes at each above it
+pub over_above : (d f r i : ℕ) → d ^ 4 < 2 ^ (r + 1) * f ^ 4 → r < i → d ^ 4 < 2 ^ i * f ^ 4
+over_above d f r i over above =
+    let up : r + 1 ≤ i = omega arith in
+    let two : 0 < 2 = omega arith in
+    let more : 2 ^ (r + 1) * f ^ 4 ≤ 2 ^ i * f ^ 4 = mul-le-mul_right (f ^ 4) (pow-le-pow_right two up) in
+    omega (arith, more, over)

@@ -16,3 +16,4 @@ pub mod Numbered
 pub mod Scores
 pub mod TermEntries
 pub mod Searched
+pub mod DistinctTerms

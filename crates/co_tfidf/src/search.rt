@@ -209,14 +209,14 @@ pub fn plain_search(
     ensures { IfOk result (λ f. f ≡ found most corpus.now hits query.now pick) }
 {
     let documents = corpus.as_slice();
-    let query = distinct_terms(alloc, query)?;
-    let scores = scores_of(alloc, documents, index, &query)?;
+    let keywords = distinct_terms(alloc, query)?;
+    let scores = scores_of(alloc, documents, index, &keywords)?;
     let ranked = ranking(alloc, &scores)?;
     let hits = make_hits(alloc, documents, &ranked, hits)?;
     let document = pick_document(alloc, documents, hits.as_slice(), pick)?;
     Ok(Found {
         hits,
-        unknown: unknown_of(alloc, index, &query)?,
+        unknown: unknown_of(alloc, index, &keywords)?,
         document,
     })
 }

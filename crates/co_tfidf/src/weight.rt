@@ -1,5 +1,5 @@
 // Weights of terms, in whole numbers.
-ghost use Rattle.std.specs.Prelude.{◌≡◌, ◌≤◌, ◌<◌, ◌*◌, ◌^◌, ◌+◌};
+ghost use Rattle.std.specs.Prelude.{◌≡◌, ◌≤◌, ◌<◌, ◌*◌, ◌^◌, ◌+◌, ℕ};
 ghost use Rattle.co_tfidf.specs.Weight.{bits};
 
 /// The greatest i with 2^i * df^4 <= documents^4: four times the binary logarithm of documents / df, rounded down.
@@ -8,11 +8,14 @@ pub fn quarter_bits(documents: u32, df: u32) -> u32
     requires within { df ≤ documents }
     requires many { documents ≤ 65536 }
     ensures exact { result ≡ bits documents df }
+    ensures reached { 2 ^ result * df ^ 4 ≤ documents ^ 4 }
+    ensures greatest { (i : ℕ) → result < i → documents ^ 4 < 2 ^ i * df ^ 4 }
     ensures small { result ≤ 64 }
 {
     by_doubling(documents, df)
 }
 
+// The same, by doubling df^4 until it passes.
 fn by_doubling(documents: u32, df: u32) -> u32
     requires some { 1 ≤ df }
     requires within { df ≤ documents }

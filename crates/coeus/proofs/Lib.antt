@@ -1,3 +1,4 @@
 pub mod Keywords
 pub mod Rest
 pub mod Telling
+pub mod Unhindered

@@ -1,5 +1,5 @@
 -- What is left of the words behind one option.
-use Rattle.std.proofs.Common.{◌≡◌, ◌≤◌, ◌-◌, ℕ, List, [], ◌∷◌, Bool, false, Some, length, take, drop, refl, sym, ap, ◌∙◌, arith, slice_index_or, string_bytes, String}
+use Rattle.std.proofs.Common.{◌≡◌, ◌≤◌, ◌-◌, List, [], ◌∷◌, false, Some, length, take, drop, refl, sym, ap, ◌∙◌, arith, slice_index_or, string_bytes, String}
 use Rattle.std.specs.Prelude.{map, codes}
 use Rattle.std.specs.Str.{bytes_eq}
 use Rattle.std.proofs.lemmas.List.{take_all}

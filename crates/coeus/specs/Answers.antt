@@ -1,5 +1,5 @@
 -- What each command prints, and when it refuses.
-use Rattle.std.specs.Prelude.{◌≡◌, ◌≢◌, ◌⊎◌, ◌<◌, ◌≤◌, ◌++◌, [], ◌∷◌, ℕ, min, List, length, codes, decimal, Option, Some, None, Result, Ok, Err, IsOk, IsSome}
+use Rattle.std.specs.Prelude.{◌≡◌, ◌⊎◌, ◌<◌, ◌≤◌, ◌++◌, [], ◌∷◌, ℕ, min, List, length, codes, decimal, Option, Some, None, Result, Ok, Err, IsOk, IsSome}
 use Rattle.co_link.specs.Causes.{Rose}
 use Rattle.co_link.specs.Files.{Folder, FileCall, file_at, IsLonger}
 use Rattle.co_link.specs.declared.files.FileKind.TheVariants.{Read, Write}
@@ -75,6 +75,19 @@ PlainCause p run Memory = Unit {0}
 PlainCause p run Words = ⊥
 PlainCause p run (Test fault) = ⊥
 PlainCause p run (File Write) = ⊥
+
+-- a plain search that nothing hinders: the file is told, within the limit and a corpus, the query has at most sixteen
+-- distinct terms, and no count of faults rose
+pub record IsUnhindered (p : PlainWords) (run : Run) : Type 0 where
+  pub told : IsSome run.held
+  pub bytes : List ℕ
+  pub file : file_at run.held p.corpus ≡ Some (Some bytes)
+  pub fits : length bytes ≤ 268435456
+  pub documents : List Document
+  pub read : corpus_of bytes ≡ Ok documents
+  pub few : length (query_of p.query) ≤ 16
+  pub files_kept : ¬ Rose run.files_before run.files_now
+  pub out_kept : ¬ Rose run.out_before run.out_now
 
 -- ---- shape
 

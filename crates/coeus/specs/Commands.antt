@@ -1,5 +1,5 @@
 -- What the program's own types stand for.
-use Rattle.std.specs.Prelude.{ℕ, List, map, Option, Some, None, option_map, string_bytes}
+use Rattle.std.specs.Prelude.{map, option_map, string_bytes}
 use Rattle.coeus.specs.Words.{Rest, PlainWords}
 use Rattle.coeus.specs.declared.options.OptionsAndQuery.{OptionsAndQuery}
 use Rattle.coeus.specs.declared.words.PlainCommand.{PlainCommand}

@@ -1,5 +1,5 @@
 -- Why the program refuses, with which status, and what it says.
-use Rattle.std.specs.Prelude.{◌≡◌, ◌≢◌, ◌⊎◌, ◌<◌, ℕ, min, List, [], ◌∷◌, ◌++◌, ◌≤◌, take, codes, decimal, length, Option, Some, None, Result, Err}
+use Rattle.std.specs.Prelude.{◌≡◌, ◌≢◌, ◌⊎◌, ℕ, List, [], ◌∷◌, ◌++◌, ◌≤◌, take, codes, decimal, length, Option, Some, None}
 use Rattle.co_link.specs.Causes.{Rose}
 use Rattle.co_link.specs.declared.files.FileKind.{FileKind}
 use Rattle.co_link.specs.declared.files.FileKind.TheVariants.{Read, Write}

@@ -12,22 +12,46 @@ mod plain;
 mod program;
 mod refusals;
 mod shape;
+#[cfg(test)]
+mod tests;
 mod words;
 
+use crate::refusals::{Refusal, tell};
 use co_link::{StdFiles, StdSink};
 pub use program::run;
 use std::process::ExitCode;
 use std::{env, io};
 
-fn main(rt: HostRuntime) -> io::Result<ExitCode> {
-    let alloc = rt.alloc();
-    let mut words = Vec::new(alloc);
-    for word in env::args(&rt)?.skip(1) {
-        words.push(word)?;
+// The words behind the program's name. A word that is no UTF-8 is a wrong word.
+fn words_of(rt: &HostRuntime) -> Result<Vec<String>, Refusal> {
+    let all = match env::args(rt) {
+        Ok(all) => all,
+        Err(e) => {
+            if e.kind() == io::ErrorKind::OutOfMemory {
+                return Err(Refusal::Memory);
+            }
+            return Err(Refusal::Words);
+        }
+    };
+    let mut words = Vec::new(rt.alloc());
+    for word in all.skip(1) {
+        if words.push(word).is_err() {
+            return Err(Refusal::Memory);
+        }
     }
-    let mut files = StdFiles::new(&rt, alloc);
-    let mut out = StdSink::new(rt.stdout());
+    Ok(words)
+}
+
+fn main(rt: HostRuntime) -> ExitCode {
+    let alloc = rt.alloc();
     let mut err = StdSink::new(rt.stderr());
-    let status = run(&rt, alloc, &words, &mut files, &mut out, &mut err);
-    Ok(ExitCode::from(status))
+    let status = match words_of(&rt) {
+        Ok(words) => {
+            let mut files = StdFiles::new(&rt, alloc);
+            let mut out = StdSink::new(rt.stdout());
+            run(&rt, alloc, &words, &mut files, &mut out, &mut err)
+        }
+        Err(refusal) => tell(alloc, &[], refusal, &mut err),
+    };
+    ExitCode::from(status)
 }

@@ -1,9 +1,9 @@
 // The top call: all that the program does.
-ghost use Rattle.std.specs.Prelude.{◌≡◌, ◌≢◌, Option, Some, map, string_bytes};
-ghost use Rattle.coeus.specs.Words.{spoken, SpokenPlain, SpokenShape};
+ghost use Rattle.std.specs.Prelude.{◌≡◌, ◌≢◌, ◌⊎◌, Option, Some, map, string_bytes};
+ghost use Rattle.coeus.specs.Words.{PlainWords, spoken, SpokenPlain, SpokenShape};
 ghost use Rattle.coeus.specs.Commands.{plain_shown};
 ghost use Rattle.co_link.specs.Files.{Folder};
-ghost use Rattle.coeus.specs.Answers.{Run, Answered, Refused};
+ghost use Rattle.coeus.specs.Answers.{Run, Answered, Refused, IsUnhindered};
 
 use crate::plain::plain;
 use crate::refusals::{Refusal, say, tell};
@@ -74,6 +74,9 @@ pub fn run<T: Threads + Sync, F: Files, O: Sink, E: Sink>(
     ensures refused { result ≢ 0 → Refused (spoken (map string_bytes words.now)) (map string_bytes words.now)
         (record { held = F.held files.old; files_before = F.faults files.old; files_now = F.faults files.new; last_failed = F.last_failed files.new; out_before = O.faults out.old; out_now = O.faults out.new })
         (record { out_was = O.put_so_far out.old; out_is = O.put_so_far out.new; err_before = E.faults err.old; err_now = E.faults err.new; err_was = E.put_so_far err.old; err_is = E.put_so_far err.new }) result }
+    ensures complete { (p : PlainWords) → spoken (map string_bytes words.now) ≡ Some (SpokenPlain p)
+        → IsUnhindered p (record { held = F.held files.old; files_before = F.faults files.old; files_now = F.faults files.new; last_failed = F.last_failed files.new; out_before = O.faults out.old; out_now = O.faults out.new })
+        → (result ≡ 0) ⊎ (result ≡ 10) }
     ensures files { F.held files.new ≡ F.held files.old }
 {
     match read_plain(words) {

@@ -1,9 +1,9 @@
-use Rattle.std.proofs.Common.{◌≡◌, refl, sym, ap, ◌∙◌, inl, inr, Some, None, map, string_bytes}
+use Rattle.std.proofs.Common.{refl, sym, ap, ◌∙◌, inl, inr, None, map, string_bytes}
 use Rattle.std.specs.Prelude.{option_map}
 use Rattle.coeus.specs.Commands.{plain_shown}
-use Rattle.coeus.specs.Words.{plain_words, shape_words}
 use Rattle.coeus.specs.declared.refusals.Refusal.TheVariants.{Words}
 use Rattle.coeus.proofs.Telling.{told, answered_as, refused_as, plain_spoken, shape_spoken, none_spoken}
+use Rattle.coeus.proofs.Unhindered.{ends}
 use Rattle.coeus.proofs.program.run.Goals as goal
 
 pub returns-in-Some-clause-answered : goal.returns-in-Some-clause-answered
@@ -26,3 +26,12 @@ pub returns-in-None-read_shape-clause-refused : goal.returns-in-None-read_shape-
 returns-in-None-read_shape-clause-refused g c = λ other.
     refused_as (none_spoken (map string_bytes c.args.words.now) (sym c.read_plain.ensures ∙ ap (option_map plain_shown) c.in-None.is) (sym c.read_shape.ensures ∙ c.in-None-read_shape.is))
     (told None (map string_bytes c.args.words.now) _ _ Words _ (inl refl) refl (λ differs. (inr refl, refl)) c.tell.ensures)
+
+pub returns-in-Some-clause-complete : goal.returns-in-Some-clause-complete
+returns-in-Some-clause-complete g c = λ p e unhindered. ends _ p _ _ _ _ e unhindered (returns-in-Some-clause-refused g c)
+
+pub returns-in-Some-read_shape-clause-complete : goal.returns-in-Some-read_shape-clause-complete
+returns-in-Some-read_shape-clause-complete g c = λ p e unhindered. ends _ p _ _ _ _ e unhindered (returns-in-Some-read_shape-clause-refused g c)
+
+pub returns-in-None-read_shape-clause-complete : goal.returns-in-None-read_shape-clause-complete
+returns-in-None-read_shape-clause-complete g c = λ p e unhindered. ends _ p _ _ _ _ e unhindered (returns-in-None-read_shape-clause-refused g c)

@@ -1,4 +1,4 @@
-use Rattle.std.proofs.Common.{rules, refl, sym, inl, inr}
+use Rattle.std.proofs.Common.{refl, sym, inl, inr}
 use Rattle.coeus.specs.declared.refusals.Refusal.TheVariants.{Output, Memory}
 use Rattle.coeus.proofs.refusals.tell.Goals as goal
 
