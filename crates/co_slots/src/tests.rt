@@ -1,7 +1,7 @@
 // Values from outside, and each call once.
 mod rows;
 
-ghost use Rattle.std.specs.Prelude.{◌≡◌, IfOk, IfSome};
+ghost use Rattle.std.specs.Prelude.{◌≡◌, ◌<◌, IfOk, IfSome};
 ghost use Rattle.co_math.specs.Parameters.{plain_modulus};
 ghost use Rattle.co_math.specs.Coefficients.{AreBelow};
 
@@ -63,13 +63,20 @@ fn slots_of_rows(rt: HostRuntime) -> Result<(), Fail> {
     Ok(())
 }
 
+/// The least degree.
+fn sixteen() -> Degree
+    ensures { result ≡ 16 }
+{
+    Degree::of(16)
+}
+
 /// The monomial X^place times a number, at degree 16.
 fn monomial(alloc: Global, place: usize, number: u64) -> Result<Poly, AllocError>
     requires within { place < 16 }
     requires reduced { number < plain_modulus }
     ensures { IfOk result (λ p. p.modulus ≡ Modulus.Plain) }
 {
-    let mut poly = Poly::zero(alloc, Modulus::Plain, Degree::of(16))?;
+    let mut poly = Poly::zero(alloc, Modulus::Plain, sixteen())?;
     poly.set(place, number);
     Ok(poly)
 }
@@ -97,8 +104,7 @@ fn payloads_there_and_back(rt: HostRuntime) -> Result<(), Fail> {
     let alloc = rt.alloc();
     let bytes = bytes_of(alloc, rows::BYTES)?;
     assert!(rt; bytes.len() == 32);
-    let degree = Degree::new(16).expect(&rt, "a degree");
-    let poly = encode_bytes(alloc, degree, &bytes)?;
+    let poly = encode_bytes(alloc, sixteen(), &bytes)?;
     assert!(rt; has(&poly, &numbers(alloc, rows::PAYLOAD)?));
     assert_eq!(rt; decode_bytes(alloc, &poly)?.as_slice(), bytes.as_slice());
     let fault = decode_bytes(alloc, &monomial(alloc, 3, 65536)?);
