@@ -1,6 +1,8 @@
 //! The wire bytes of ciphertexts and keys, by their digests: of each coefficient the residues
 //! modulo q1 and q2, seven bytes each, the low byte first.
 
+ghost use Rattle.std.specs.Prelude.{◌<◌};
+
 use crate::{GaloisKey, KeySet};
 use co_bfv::Cipher;
 use co_math::parameters::{DIGIT_COUNT, FIRST_MODULUS, SECOND_MODULUS};
