@@ -204,7 +204,7 @@ one_library documents s l m a b =
     let places : a.places ≡ b.places = one_packing (map length (texts_of documents)) a.size a.places b.places a.bin_count b.bin_count a.packed packed in
     let count : a.bin_count ≡ b.bin_count = one_count (map length (texts_of documents)) a.size a.places b.places a.bin_count b.bin_count a.packed packed in
     let shape : l.shape ≡ m.shape = a.shape ∙ ap (λ (n : ℕ). shape_for s (length documents) (length (vocabulary s.terms documents)) n a.size) count
-        ∙ ap (λ (n : ℕ). shape_for s (length documents) (length (vocabulary s.terms documents)) b.bin_count n) size ∙ sym b.shape in
+    ∙ ap (λ (n : ℕ). shape_for s (length documents) (length (vocabulary s.terms documents)) b.bin_count n) size ∙ sym b.shape in
     let records : l.records ≡ m.records = a.records ∙ ap (records_from 0 documents) places ∙ sym b.records in
     let full : length l.bins ≡ length m.bins = a.full ∙ ap (λ (n : ℕ). n * a.size) count ∙ ap (λ (n : ℕ). b.bin_count * n) size ∙ sym b.full in
     let moved : AreBins b.size (texts_of documents) a.places m.bins = subst (λ (ps : List Place). AreBins b.size (texts_of documents) ps m.bins) (sym places) b.bins in
