@@ -1,5 +1,0 @@
-pub mod Steps
-pub mod Substitutions
-pub mod Keys
-pub mod Switches
-pub mod Draws
