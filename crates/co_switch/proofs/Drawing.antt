@@ -1,0 +1,19 @@
+-- Lengths and sizes of what is drawn.
+use Rattle.std.proofs.Common.{◌≡◌, ℕ, ℤ, ◌<◌, ◌≤◌, pos, List, length, get_or}
+use Rattle.std.specs.Int.RustNames.{unsigned_abs}
+use Rattle.rand_core.specs.Stream.{Stream}
+use Rattle.co_math.specs.Parameters.{error_bound}
+use Rattle.co_bfv.specs.Draws.{uniform_draw, error_draw, coefficient_draw, noise_draw}
+use Rattle.co_bfv.proofs.Drawn.{length-drawn, errors_small}
+
+pub length-uniform : (n : ℕ) (s : Stream) → length (uniform_draw n s).0 ≡ n
+unfolding uniform_draw
+length-uniform n s = length-drawn coefficient_draw n s
+
+pub length-error : (n : ℕ) (s : Stream) → length (error_draw n s).0 ≡ n
+unfolding error_draw
+length-error n s = length-drawn noise_draw n s
+
+pub error-small : (n : ℕ) (s : Stream) (i : ℕ) → i < n → unsigned_abs (get_or (error_draw n s).0 i (pos 0)) ≤ error_bound
+unfolding error_draw
+error-small n s i l = let h = errors_small n s in h.each i l

@@ -1,0 +1,10 @@
+pub mod Substituting
+pub mod Digitwise
+pub mod Cuts
+pub mod Meaning
+pub mod Switched
+pub mod Adding
+pub mod Drawing
+pub mod Hiding
+pub mod Elements
+pub mod Listing

@@ -1,0 +1,61 @@
+use Rattle.std.proofs.Common.{ℕ, ◌≡◌, ◌∙◌, ◌+◌, ◌/◌, ◌≤◌, length, sym, ap, subst, arith}
+use Rattle.rand_core.specs.Stream.{Stream}
+use Rattle.co_math.specs.Coefficients.{IsDegree}
+use Rattle.co_noise.specs.Shapes.{Numbers, levels, log2_up}
+use Rattle.co_noise.specs.Bounds.{HasRoom}
+use Rattle.co_bfv.specs.Lists.{signed_coefficients}
+use Rattle.co_switch.specs.Keys.{Keys, AreKeys, AreGoodKeys}
+use Rattle.co_switch.proofs.Elements.{half_of, levels-le}
+use Rattle.co_switch.proofs.Listing.{set_made, key_set_draw-AreKeys, key_set_draw-good}
+use Rattle.co_switch.proofs.making.make_keys.Goals as goal
+
+-- the levels of a tested shape of the secret's degree
+few : (s : Numbers) (n : ℕ) (d : IsDegree n) → n ≡ s.degree → HasRoom s → levels s ≤ log2_up (n / 2) + 1
+few s n d e room =
+    let h = half_of s.degree (subst IsDegree e d) in
+    let log : log2_up (n / 2) ≡ h.exponent = ap (λ m. log2_up (m / 2)) e ∙ h.log in
+    omega (arith, levels-le s h room, log)
+
+few_by_half : (s : Numbers) (n : ℕ) (d : IsDegree n) → n ≡ s.degree → HasRoom s → (h : ℕ) → log2_up (n / 2) ≡ h → levels s ≤ h + 1
+few_by_half s n d e room h f = omega (arith, few s n d e room, f)
+
+pub make_expansions-requires-clause-few : goal.make_expansions-requires-clause-few
+make_expansions-requires-clause-few g c =
+    let s = c.degree.ensures.secret in
+    let l = few c.args.tested.now (length c.args.secret.now) s.degree c.requires c.shape-shape.ensures.room in
+    let e : c.levels-levels.result ≡ levels c.args.tested.now = c.levels-levels.ensures.value ∙ ap levels c.shape-shape.ensures.value in
+    let d : log2_up (length c.args.secret.now / 2) ≡ log2_up (c.degree-degree.result / 2) =
+    ap (λ (m : ℕ). log2_up (m / 2)) (c.requires ∙ sym (c.degree-degree.ensures.value ∙ ap (λ (s : Numbers). s.degree) c.shape-shape.ensures.value)) in
+    omega (arith, l, e, d)
+
+pub from_parts-requires : goal.from_parts-requires
+from_parts-requires g c =
+    let s = c.degree.ensures.secret in
+    let start = g.R.Rng.stream c.args.rng.now in
+    let h = half_of (length c.args.secret.now) s.degree in
+    let made = set_made c.args.secret.now (levels c.args.tested.now) c.levels-levels.result start (g.R.Rng.stream c.make_rotations.new.rng) (g.R.Rng.stream c.make_expansions.new.rng)
+    c.in_ok-rotations.rotations.items c.in_ok-expansions.expansions.items (c.levels-levels.ensures.value ∙ ap levels c.shape-shape.ensures.value)
+    c.in_ok-rotations.ensures.value c.in_ok-rotations.ensures.rest c.in_ok-expansions.ensures.value c.in_ok-expansions.ensures.rest in
+    subst AreKeys (sym (ap (λ (p : Keys × Stream). p.0) made))
+    (key_set_draw-AreKeys c.args.secret.now s.degree (levels c.args.tested.now) h (few_by_half c.args.tested.now (length c.args.secret.now) s.degree c.requires c.shape-shape.ensures.room h.exponent h.log) start)
+
+pub returns-clause-value : goal.returns-clause-value
+returns-clause-value g c =
+    let made = set_made c.args.secret.now (levels c.args.tested.now) c.levels-levels.result (g.R.Rng.stream c.args.rng.now) (g.R.Rng.stream c.make_rotations.new.rng) (g.R.Rng.stream c.make_expansions.new.rng)
+    c.in_ok-rotations.rotations.items c.in_ok-expansions.expansions.items (c.levels-levels.ensures.value ∙ ap levels c.shape-shape.ensures.value)
+    c.in_ok-rotations.ensures.value c.in_ok-rotations.ensures.rest c.in_ok-expansions.ensures.value c.in_ok-expansions.ensures.rest in
+    c.from_parts.ensures ∙ ap (λ (p : Keys × Stream). p.0) made
+
+pub returns-clause-rest : goal.returns-clause-rest
+returns-clause-rest g c =
+    ap (λ (p : Keys × Stream). p.1)
+    (set_made c.args.secret.now (levels c.args.tested.now) c.levels-levels.result (g.R.Rng.stream c.args.rng.now) (g.R.Rng.stream c.make_rotations.new.rng) (g.R.Rng.stream c.make_expansions.new.rng)
+    c.in_ok-rotations.rotations.items c.in_ok-expansions.expansions.items (c.levels-levels.ensures.value ∙ ap levels c.shape-shape.ensures.value)
+    c.in_ok-rotations.ensures.value c.in_ok-rotations.ensures.rest c.in_ok-expansions.ensures.value c.in_ok-expansions.ensures.rest)
+
+pub returns-clause-good : goal.returns-clause-good
+returns-clause-good g c =
+    let s = c.degree.ensures.secret in
+    let h = half_of (length c.args.secret.now) s.degree in
+    subst (AreGoodKeys (signed_coefficients c.args.secret.now)) (sym (returns-clause-value g c))
+    (key_set_draw-good c.args.secret.now s.degree (levels c.args.tested.now) h (few_by_half c.args.tested.now (length c.args.secret.now) s.degree c.requires c.shape-shape.ensures.room h.exponent h.log) (g.R.Rng.stream c.args.rng.now))

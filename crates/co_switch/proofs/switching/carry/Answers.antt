@@ -1,0 +1,5 @@
+use Rattle.co_switch.proofs.Adding.{substituted_is}
+use Rattle.co_switch.proofs.switching.carry.Goals as goal
+
+pub returns : goal.returns
+returns c = substituted_is c.args.element c.args.poly.now c.substitute.new.into c.degree.ensures.whole.degree c.requires.odd c.substitute.ensures
