@@ -1,0 +1,9 @@
+pub mod Doubled
+pub mod Keywords
+pub mod Filling
+pub mod Scored
+pub mod Made
+pub mod Adding
+pub mod Blocks
+pub mod Shown
+pub mod Scoring
