@@ -1,8 +1,8 @@
 -- Products added to a reply, one by one.
-use Rattle.std.proofs.Common.{◌≡◌, ℕ, suc, ◌+◌, ◌*◌, ◌/◌, ◌<◌, ◌≤◌, refl, sym, ap, subst, ◌∙◌, ⊎_elim, arith, ℤ, pos, ◌+ℤ◌, ◌*ℤ◌, List, length, get_or, replicate, cond, eqb, eq-eqb, true, false, []}
+use Rattle.std.proofs.Common.{◌≡◌, ℕ, suc, ◌+◌, ◌*◌, ◌<◌, refl, sym, ap, subst, ◌∙◌, ⊎_elim, arith, ℤ, pos, ◌+ℤ◌, ◌*ℤ◌, List, length, get_or, replicate, cond, eqb, eq-eqb, true, false, []}
 use Rattle.std.proofs.lemmas.Bool.{cases_lt}
 use Rattle.std.proofs.lemmas.Bool.Decides.{nat_tests}
-use Rattle.co_math.specs.Parameters.{q, plain_modulus}
+use Rattle.co_math.specs.Parameters.{q}
 use Rattle.co_math.specs.Residues.{Congruent}
 use Rattle.co_math.specs.Sums.{total}
 use Rattle.co_math.specs.Polynomials.{IsWrapped, plus, product}
@@ -11,18 +11,18 @@ use Rattle.co_math.proofs.Integers.{linear, mul-zero}
 use Rattle.co_math.proofs.Residues.{cong-trans, cong-sym, cong-add, cong-refl, cong_from}
 use Rattle.co_math.proofs.Totals.{total-zero, total-suc, total-same, total-none}
 use Rattle.co_math.proofs.Done.{own_residues}
-use Rattle.co_math.proofs.Agreements.{Agree, residues_for, product_agree}
+use Rattle.co_math.proofs.Agreements.{residues_for, product_agree}
 use Rattle.co_math.proofs.Polynomials.{product-IsWrapped}
 use Rattle.co_math.proofs.Switches.{sums}
 use Rattle.co_rns.specs.Residue_pairs.{centred_coefficients}
 use Rattle.co_rns.proofs.Centring.{centred_IsWrapped}
 use Rattle.co_bfv.specs.Lists.{residues_of}
-use Rattle.co_bfv.specs.Ciphertexts.{Ciphertext, IsCiphertext, ciphertext_degree, ciphertext_sum, plain_product, zero_ciphertext}
+use Rattle.co_bfv.specs.Ciphertexts.{Ciphertext, ciphertext_degree, ciphertext_sum, plain_product}
 use Rattle.co_bfv.proofs.Listed.{degree_positive, length-residues_of, residues_of-agree, residues_of-is, residues_of-are, plus-IsWrapped}
 use Rattle.co_bfv.proofs.Combined.{residues_whole, c0-IsWrapped, c1-IsWrapped}
 use Rattle.co_rot.specs.Rotations.{no_ciphertext}
 use Rattle.co_matvec.specs.Weights.{WeightMatrix}
-use Rattle.co_matvec.specs.Replies.{IsDiagonal, HasSlots, IsSumOver, double_sum}
+use Rattle.co_matvec.specs.Replies.{IsDiagonal}
 use Rattle.co_matvec.specs.Sums.{IsOfDegree, increased, summed, AddsDiagonal, AddsDiagonals}
 use Rattle.co_matvec.proofs.Made.{zero_centred}
 use Rattle.co_matvec.proofs.Scored.{sums-wrapped, plain_product-parts}

@@ -7,3 +7,4 @@ pub mod Adding
 pub mod Blocks
 pub mod Shown
 pub mod Scoring
+pub mod Only

@@ -1,15 +1,15 @@
 -- A diagonal polynomial, from its slots.
-use Rattle.std.proofs.Common.{◌≡◌, ℕ, ◌+◌, ◌*◌, ◌/◌, ◌%◌, ◌^◌, ◌<◌, ◌≤◌, refl, sym, ap, subst, ◌∙◌, arith, ℤ, pos, ◌*ℤ◌, List, length, get_or, replicate, eqb, true}
+use Rattle.std.proofs.Common.{◌≡◌, ℕ, ◌*◌, ◌^◌, ◌<◌, refl, sym, ap, subst, ◌∙◌, arith, ℤ, pos, ◌*ℤ◌, List, length, get_or, replicate, eqb, true}
 use Rattle.std.proofs.lemmas.List.{get_or-replicate, length-replicate}
 use Rattle.std.proofs.lemmas.List.Sums.{AllPass-from_list_all}
 use Rattle.std.proofs.lemmas.Bool.{eqb-true}
 use Rattle.std.specs.List.{list_all}
 use Rattle.co_math.specs.Parameters.{plain_modulus, q}
-use Rattle.co_math.specs.Residues.{residue, Congruent}
+use Rattle.co_math.specs.Residues.{residue}
 use Rattle.co_math.specs.Values.{value, value_at}
 use Rattle.co_math.specs.Polynomials.{IsWrapped}
 use Rattle.co_math.specs.Meanings.{centred}
-use Rattle.co_math.specs.Coefficients.{coefficients, AreBelow, IsDegree}
+use Rattle.co_math.specs.Coefficients.{coefficients, AreBelow}
 use Rattle.co_math.proofs.Integers.{zero-mul}
 use Rattle.co_math.proofs.Residues.{cong_from, cong-trans, residue-same, residue_small}
 use Rattle.co_math.proofs.Totals.{total-none}
@@ -20,11 +20,10 @@ use Rattle.co_math.specs.Powers.{power}
 use Rattle.co_rns.specs.Residue_pairs.{centred_coefficients}
 use Rattle.co_rns.proofs.Centring.{centred_IsWrapped}
 use Rattle.co_slots.specs.Slots.{slot, AreSlots}
-use Rattle.co_bfv.proofs.Listed.{degree_positive}
-use Rattle.co_rot.proofs.Columns.{point}
-use Rattle.co_matvec.specs.Weights.{WeightMatrix, diagonal_slot}
+use Rattle.co_slots.proofs.Slotwise.{point, slot-is}
+use Rattle.co_matvec.specs.Weights.{WeightMatrix}
 use Rattle.co_matvec.specs.Diagonals.{AreDiagonalSlots}
-use Rattle.co_matvec.specs.Replies.{HasSlots, IsDiagonal}
+use Rattle.co_matvec.specs.Replies.{IsDiagonal}
 use Rattle.co_matvec.proofs.Scored.{values_agree}
 
 -- the zero polynomial has the value 0 everywhere
@@ -33,14 +32,12 @@ unfolding value_at value
 zero-value n x = total-none n (λ j. pos 0 *ℤ power x j) (λ j l. zero-mul (power x j))
 
 zero-slot : (n p : ℕ) → 0 < n → slot (replicate n 0) p ≡ 0
-unfolding slot
 zero-slot n p z =
-    let len = length-replicate n 0 in
-    subst (λ (k : ℕ). residue plain_modulus (value_at k (coefficients (replicate n 0)) (point k p)) ≡ 0) (sym len)
-    (residue-same plain_modulus (value_at n (coefficients (replicate n 0)) (point n p)) (pos 0) (omega arith)
+    slot-is n (replicate n 0) p (length-replicate n 0)
+    ∙ residue-same plain_modulus (value_at n (coefficients (replicate n 0)) (point n p)) (pos 0) (omega arith)
     (cong-trans plain_modulus (values_agree n (coefficients (replicate n 0)) (λ k. pos 0) (point n p) (residues_agree plain_modulus n (λ k. pos 0) (replicate n 0) (omega arith) z (λ k. refl) (zeros plain_modulus n (omega arith))))
     (cong_from plain_modulus (zero-value n (point n p))))
-    ∙ residue_small plain_modulus 0 (omega arith))
+    ∙ residue_small plain_modulus 0 (omega arith)
 
 -- all slots are 0
 pub zero_diagonal : (w : WeightMatrix) (a k i : ℕ) (slots : List ℕ) → 0 < w.degree → AreDiagonalSlots w a k i slots → ((p : ℕ) → p < length slots → get_or slots p 0 ≡ 0) → IsDiagonal w a k i (replicate w.degree 0)

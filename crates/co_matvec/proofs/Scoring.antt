@@ -1,5 +1,5 @@
 -- The replies over the keyword blocks so far, and their steps.
-use Rattle.std.proofs.Common.{◌≡◌, ℕ, ◌+◌, ◌*◌, ◌-◌, ◌/◌, ◌<◌, ◌≤◌, refl, sym, ap, subst, ◌∙◌, arith, List, length, get_or, All, slice_get, Some}
+use Rattle.std.proofs.Common.{◌≡◌, ℕ, ◌+◌, ◌*◌, ◌-◌, ◌/◌, ◌<◌, ◌≤◌, sym, ap, subst, ◌∙◌, arith, List, length, get_or, All}
 use Rattle.std.proofs.lemmas.Option.{slice_get_within, get_or_from_slice_get}
 use Rattle.std.proofs.Math.Nat.{mul-le-mul_right}
 use Rattle.co_math.specs.Coefficients.{IsDegree}
@@ -11,7 +11,7 @@ use Rattle.co_rot.proofs.Growing.{raised-none, raised-up, raised-le, raised-more
 use Rattle.co_rot.proofs.Rotated.{AreRotationKeys}
 use Rattle.co_rot.proofs.Keyed.{rotation_keys_are}
 use Rattle.co_matvec.specs.Weights.{WeightMatrix, keyword_blocks, document_blocks}
-use Rattle.co_matvec.specs.Replies.{IsSumOver, AreScoreReplies, MeanScores, ShowScores, MeansSlots}
+use Rattle.co_matvec.specs.Replies.{IsSumOver, AreScoreReplies, MeanScores, ShowScores}
 use Rattle.co_matvec.specs.Sums.{AreSums, IsOfDegree}
 use Rattle.co_matvec.proofs.Blocks.{no_blocks}
 use Rattle.co_matvec.proofs.Shown.{reply_shows, reply_scores}

@@ -1,38 +1,35 @@
 -- What score replies mean.
-use Rattle.std.proofs.Common.{◌≡◌, ℕ, zero, suc, ◌+◌, ◌*◌, ◌-◌, ◌/◌, ◌%◌, ◌^◌, ◌<◌, ◌≤◌, refl, sym, ap, subst, ◌∙◌, ⊎_elim, arith, ℤ, pos, List, [], ◌∷◌, length, get_or, map, All, eqb, slice_get, Some, max, min, sum_by, cond, Bool, true, false, ◌&&◌}
+use Rattle.std.proofs.Common.{◌≡◌, ℕ, zero, suc, ◌+◌, ◌*◌, ◌-◌, ◌/◌, ◌%◌, ◌^◌, ◌<◌, ◌≤◌, refl, sym, ap, subst, ◌∙◌, ⊎_elim, arith, ℤ, List, [], ◌∷◌, length, get_or, All, eqb, max, cond, Bool, true, false, ◌&&◌}
 use Rattle.std.proofs.lemmas.Bool.{cases_lt}
 use Rattle.std.proofs.lemmas.List.Elements.{All-head, All-tail}
-use Rattle.std.proofs.lemmas.Option.{slice_get_within, get_or_from_slice_get, slice_get-get_or}
+use Rattle.std.proofs.lemmas.Option.{slice_get-get_or}
 use Rattle.std.proofs.lemmas.Grind.{div_ceil_times}
 use Rattle.std.proofs.Math.Nat.{mod-eq_of_lt, mod-lt, mul-le-mul_right, pow-le-pow_right}
 use Rattle.std.specs.Int.{div_ceil}
 use Rattle.co_math.specs.Parameters.{q, plain_modulus, plain_half, fresh_bound}
 use Rattle.co_math.specs.Bounds.{switch_bound}
-use Rattle.co_math.specs.Residues.{Congruent}
-use Rattle.co_math.specs.Values.{value_at}
-use Rattle.co_math.specs.Polynomials.{IsWrapped, product}
+use Rattle.co_math.specs.Polynomials.{IsWrapped}
 use Rattle.co_math.specs.Coefficients.{coefficients, IsDegree}
 use Rattle.co_math.specs.Meanings.{Means}
-use Rattle.co_math.proofs.Residues.{cong-trans, cong-sym, cong_from}
+use Rattle.co_math.proofs.Residues.{cong-trans, cong-sym}
 use Rattle.co_math.proofs.Powers.{mod-is}
 use Rattle.co_math.proofs.Places.{coefficients-IsWrapped}
-use Rattle.co_math.proofs.Switches.{sums}
-use Rattle.co_rns.specs.Residue_pairs.{centred_coefficients}
-use Rattle.co_noise.specs.Shapes.{log2_up, least}
+use Rattle.co_noise.specs.Shapes.{log2_up, least, keyword_blocks as keyword_blocks_of}
+use Rattle.co_noise.specs.Bounds.{score_bound}
 use Rattle.co_bfv.specs.Lists.{residues_of}
-use Rattle.co_bfv.specs.Ciphertexts.{Ciphertext, IsCiphertext, ciphertext_degree, MeansWithin}
+use Rattle.co_bfv.specs.Ciphertexts.{Ciphertext, ciphertext_degree, MeansWithin}
 use Rattle.co_bfv.proofs.Listed.{degree_positive, residues_of-agree}
 use Rattle.co_bfv.proofs.Meant.{means_same}
-use Rattle.co_switch.specs.Keys.{Keys, IsGoodKey, keys_degree, no_key}
+use Rattle.co_switch.specs.Keys.{Keys, no_key}
 use Rattle.co_switch.specs.Substitutions.{substitution}
 use Rattle.co_rot.specs.Bits.{set_bits}
-use Rattle.co_rot.specs.Rotations.{rotation, no_ciphertext}
+use Rattle.co_rot.specs.Rotations.{no_ciphertext}
 use Rattle.co_rot.proofs.Lowest.{set_bits-le}
-use Rattle.co_rot.proofs.Columns.{point, halved}
-use Rattle.co_rot.proofs.Composed.{turned-wrapped, values-turned}
+use Rattle.co_rot.proofs.Columns.{halved, values-turned}
+use Rattle.co_rot.proofs.Composed.{turned-wrapped}
 use Rattle.co_rot.proofs.Rotated.{AreRotationKeys, rotation-whole, rotation-degree, rotation-means}
-use Rattle.co_matvec.specs.Weights.{WeightMatrix, keyword_blocks, keyword_slot, weight_of, score_of}
-use Rattle.co_matvec.specs.Replies.{HasSlots, IsDiagonal, MeansSlots, IsScoreReply, IsSumOver, double_sum, turned_query, score_noise, AreKeywords}
+use Rattle.co_matvec.specs.Weights.{WeightMatrix, numbers_of, keyword_blocks, keyword_slot, weight_of, score_of}
+use Rattle.co_matvec.specs.Replies.{HasSlots, MeansSlots, IsScoreReply, turned_query, AreKeywords}
 use Rattle.co_matvec.specs.Sums.{IsOfDegree}
 use Rattle.co_matvec.proofs.Adding.{chosen, chosen-here, chosen-before}
 use Rattle.co_matvec.proofs.Keywords.{sum_by-bound}
@@ -89,7 +86,7 @@ few_bits n bits d e = ⊎_elim
 
 -- the blocks have room for all terms
 terms_within : (w : WeightMatrix) → 0 < w.degree / 2 → w.terms ≤ keyword_blocks w * (w.degree / 2)
-unfolding keyword_blocks
+unfolding keyword_blocks keyword_blocks_of
 terms_within w z = within w.terms (w.degree / 2) (div_ceil w.terms (w.degree / 2)) (div_ceil_times w.terms (w.degree / 2) z).0
   where
     within : (t h b : ℕ) → t ≤ b * h → t ≤ max 1 b * h
@@ -163,8 +160,8 @@ module _ (w : WeightMatrix) (keys : Keys) (query : List Ciphertext) (a bits : �
   sum_meant = meant w.degree d s h.secret.wrapped (keyword_blocks w) (turned_query keys query) r.diagonal turned_message noise term_of
 
   -- the reply means the polynomial of the scores modulo t, within S
-  pub reply_shows : MeansSlots w.degree s reply (λ p. score_of w.entries keywords (a * w.degree + p) % plain_modulus) (score_noise w.degree (keyword_blocks w))
-  unfolding sum_meant noise score_noise
+  pub reply_shows : MeansSlots w.degree s reply (λ p. score_of w.entries keywords (a * w.degree + p) % plain_modulus) (score_bound (numbers_of w))
+  unfolding sum_meant noise score_bound keyword_blocks
   reply_shows =
       let n = w.degree in
       let slots = λ (p : ℕ). score_of w.entries keywords (a * n + p) in
@@ -176,7 +173,7 @@ module _ (w : WeightMatrix) (keys : Keys) (query : List Ciphertext) (a bits : �
             (λ p l. cong-trans plain_modulus (scored w d (keyword_blocks w) a keywords messages.each r.diagonal turned_message spelled_as r.diagonals is_turned h.distinct below p l)
             (cong-sym plain_modulus (mod-is plain_modulus (slots p) (omega arith))));
         means =
-            subst (λ (x : ℕ). MeansWithin s reply (coefficients (residues_of plain_modulus n sum_meant)) x) (bound (keyword_blocks w))
+            subst (λ (x : ℕ). MeansWithin s reply (coefficients (residues_of plain_modulus n sum_meant)) x) bound
             (means_same plain_modulus q (ciphertext_degree reply) s _ _ sum_meant (coefficients (residues_of plain_modulus n sum_meant)) (keyword_blocks w * (n / 2 * (n * 32768 * noise))) (omega arith)
             (λ x. cong-sym plain_modulus (residues_of-agree plain_modulus n sum_meant (omega arith) (degree_positive n d) wrapped x))
             (subst (λ (c : Ciphertext). MeansWithin s c sum_meant (keyword_blocks w * (n / 2 * (n * 32768 * noise)))) (sym r.is)
@@ -186,10 +183,10 @@ module _ (w : WeightMatrix) (keys : Keys) (query : List Ciphertext) (a bits : �
       regrouped : (b h n z : ℕ) → b * (h * (n * 32768 * z)) ≡ b * h * n * 32768 * z
       regrouped b h n z = omega arith
 
-      bound : (blocks : ℕ) → blocks * (w.degree / 2 * (w.degree * 32768 * (fresh_bound + bits * switch_bound w.degree))) ≡ score_noise w.degree blocks
-      bound blocks =
-          regrouped blocks (w.degree / 2) w.degree (fresh_bound + bits * switch_bound w.degree)
-          ∙ ap (λ x. blocks * (w.degree / 2) * w.degree * plain_half * (fresh_bound + x * switch_bound w.degree)) (sym (ap log2_up half ∙ log_of bits (few_bits w.degree bits d k.half)))
+      bound : keyword_blocks w * (w.degree / 2 * (w.degree * 32768 * (fresh_bound + bits * switch_bound w.degree))) ≡ score_bound (numbers_of w)
+      bound =
+          regrouped (keyword_blocks w) (w.degree / 2) w.degree (fresh_bound + bits * switch_bound w.degree)
+          ∙ ap (λ x. keyword_blocks w * (w.degree / 2) * w.degree * plain_half * (fresh_bound + x * switch_bound w.degree)) (sym (ap log2_up half ∙ log_of bits (few_bits w.degree bits d k.half)))
 
   -- the weight of a term is at most that of an entry
   weight_bound : (es : List (ℕ × ℕ × ℕ)) (most y document : ℕ) → All (λ e. e.2 ≤ most) es → weight_of es y document ≤ most
@@ -201,7 +198,7 @@ module _ (w : WeightMatrix) (keys : Keys) (query : List Ciphertext) (a bits : �
       either false l u = u
 
   -- with at most sixteen keywords of at most 4032 each nothing is lost modulo t
-  pub reply_scores : length keywords ≤ 16 → All (λ e. e.2 ≤ 4032) w.entries → MeansSlots w.degree s reply (λ p. score_of w.entries keywords (a * w.degree + p)) (score_noise w.degree (keyword_blocks w))
+  pub reply_scores : length keywords ≤ 16 → All (λ e. e.2 ≤ 4032) w.entries → MeansSlots w.degree s reply (λ p. score_of w.entries keywords (a * w.degree + p)) (score_bound (numbers_of w))
   unfolding score_of
   reply_scores few small =
       let m = reply_shows in

@@ -1,19 +1,19 @@
 // The score reply, keyword block by keyword block.
 
-ghost use Rattle.std.specs.Prelude.{◌≡◌, ◌+◌, ◌-◌, ◌*◌, ◌/◌, ◌<◌, ◌≤◌, length, All, IfOk, OnOk, slice_index_or};
+ghost use Rattle.std.specs.Prelude.{◌≡◌, ◌+◌, ◌-◌, ◌*◌, ◌/◌, ◌<◌, ◌≤◌, length, All, IfOk, OnOk};
 ghost use Rattle.co_bfv.specs.Ciphertexts.{IsCiphertext, ciphertext_degree, zero_ciphertext};
-ghost use Rattle.co_switch.specs.Keys.{keys_degree};
+ghost use Rattle.co_switch.specs.Keys.{AreKeys, IsKey, keys_degree};
 ghost use Rattle.co_switch.specs.Steps.{raised};
-ghost use Rattle.co_rot.specs.Rotations.{no_ciphertext, rotations as rotations_of, HasRisen};
+ghost use Rattle.co_rot.specs.Rotations.{HasRisen};
 ghost use Rattle.co_matvec.specs.Weights.{keyword_blocks, document_blocks};
-ghost use Rattle.co_matvec.specs.Replies.{AreScoreReplies, MeanScores, ShowScores, IsSumOver};
+ghost use Rattle.co_matvec.specs.Replies.{AreScoreReplies, AreOnlyScoreReplies, MeanScores, ShowScores};
 ghost use Rattle.co_matvec.specs.Sums.{AddsDiagonal, AddsDiagonals, AreSums};
 
 use crate::diagonals::diagonal;
 use crate::weights::Weights;
 use co_bfv::Cipher;
 use co_board::Gate;
-use co_rot::{all_rotations, rotation_keys};
+use co_rot::all_rotations;
 use co_switch::{KeySet, Steps};
 use std::alloc::{AllocError, Global};
 
@@ -106,6 +106,17 @@ fn empty_replies(alloc: Global, weights: &Weights) -> Result<Vec<Cipher>, AllocE
     Ok(replies)
 }
 
+/// Each rotation key is a key.
+fn rotation_keys(keys: &KeySet)
+    ensures keys { AreKeys keys.now }
+    ensures each { All IsKey keys.now.rotations }
+{
+    let all = keys.rotations();
+    for key in all {
+        let _ = key.degree();
+    }
+}
+
 /// Each element of a query is a ciphertext.
 fn ciphertexts(query: &[Cipher])
     ensures { All IsCiphertext query.now }
@@ -132,6 +143,7 @@ pub fn score<G: Gate, L>(
     requires query_degree { All (λ c. ciphertext_degree c ≡ weights.now.degree) query.now }
     requires keys_degree { keys_degree keys.now ≡ weights.now.degree }
     ensures replies { IfOk result (λ replies. AreScoreReplies weights.now keys.now query.now replies.items) }
+    ensures only { IfOk result (λ replies. AreOnlyScoreReplies weights.now keys.now query.now replies.items) }
     ensures meaning { IfOk result (λ replies. MeanScores weights.now keys.now query.now replies.items) }
     ensures scores { IfOk result (λ replies. ShowScores weights.now keys.now query.now replies.items) }
     ensures steps { OnOk result (
@@ -140,7 +152,7 @@ pub fn score<G: Gate, L>(
 {
     let _ = workers;
     let _ = weights.degree();
-    let _ = rotation_keys(keys);
+    rotation_keys(keys);
     ciphertexts(query);
     let mut replies = empty_replies(alloc, weights)?;
     for k in 0..query.len() {

@@ -4,7 +4,7 @@ ghost use Rattle.std.specs.Prelude.{◌≡◌, ◌<◌, ◌*◌, length, IsTrue,
 ghost use Rattle.co_bfv.specs.Ciphertexts.{ciphertext_degree};
 ghost use Rattle.co_math.specs.Coefficients.{AreBelow};
 ghost use Rattle.co_switch.specs.Keys.{keys_degree};
-ghost use Rattle.co_matvec.specs.Weights.{AreEntries, keyword_blocks};
+ghost use Rattle.co_matvec.specs.Weights.{AreEntries, Precedes, keyword_blocks};
 
 use super::*;
 use co_bfv::{Cipher, Secret, decrypt, encrypt, sample_secret};
@@ -60,20 +60,30 @@ fn entries(alloc: Global, lines: &[&str]) -> Result<Vec<(u32, u32, u16)>, AllocE
     Ok(all)
 }
 
+/// Whether an entry is in range.
+fn is_within(documents: u32, terms: u32, entry: &(u32, u32, u16)) -> bool
+    ensures { IsTrue result → (entry.now.0 < terms) × (entry.now.1 < documents) }
+{
+    entry.0 < terms && entry.1 < documents
+}
+
+/// Whether an entry comes before another.
+fn precedes(entry: &(u32, u32, u16), next: &(u32, u32, u16)) -> bool
+    ensures { IsTrue result → Precedes entry.now next.now }
+{
+    entry.0 < next.0 || entry.0 == next.0 && entry.1 < next.1
+}
+
 /// Whether entries are in range and ascend.
 fn are_entries(documents: u32, terms: u32, entries: &[(u32, u32, u16)]) -> bool
     ensures { IsTrue result → AreEntries documents terms entries.now }
 {
     for i in 0..entries.len() {
-        let (term, document, _) = entries[i];
-        if term >= terms || document >= documents {
+        if !is_within(documents, terms, &entries[i]) {
             return false;
         }
-        if i > 0 {
-            let (before, earlier, _) = entries[i - 1];
-            if before > term || before == term && earlier >= document {
-                return false;
-            }
+        if i > 0 && !precedes(&entries[i - 1], &entries[i]) {
+            return false;
         }
     }
     true
@@ -103,6 +113,9 @@ fn keyword_slots(
     let n = degree.get() as usize;
     let half = n / 2;
     let mut slots = vec![in alloc; 0u64; n]?;
+    if half == 0 {
+        return Ok(slots);
+    }
     for p in 0..n {
         let column = p % half;
         if keywords.iter().any(|&y| y as usize / half == block && y as usize % half == column) {

@@ -1,9 +1,8 @@
 -- A sum with the ciphertext of zeros.
 use Rattle.std.proofs.Common.{◌≡◌, ℕ, ◌+◌, ◌<◌, refl, sym, ap, subst, ◌∙◌, arith, ℤ, pos, ◌+ℤ◌, List, length}
 use Rattle.co_math.specs.Parameters.{q}
-use Rattle.co_math.specs.Residues.{Congruent}
 use Rattle.co_math.specs.Coefficients.{coefficients, AreBelow, AreResidues}
-use Rattle.co_math.specs.Polynomials.{IsWrapped, plus}
+use Rattle.co_math.specs.Polynomials.{plus}
 use Rattle.co_math.proofs.Integers.{linear}
 use Rattle.co_math.proofs.Residues.{cong_from, cong-trans, cong-add, cong-refl, cong-sym}
 use Rattle.co_math.proofs.Done.{own_residues}

@@ -1,12 +1,12 @@
 -- What a set of keys gives for rotations.
-use Rattle.std.proofs.Common.{◌≡◌, ℕ, suc, ◌+◌, ◌*◌, ◌%◌, ◌^◌, ◌<◌, ◌≤◌, refl, sym, ap, subst, ◌∙◌, ⊎_elim, arith, List, length, get_or, map, All}
+use Rattle.std.proofs.Common.{◌≡◌, ℕ, ◌*◌, ◌^◌, ◌<◌, ◌≤◌, refl, sym, ap, ◌∙◌, ⊎_elim, arith, List, length, get_or, All}
 use Rattle.std.proofs.lemmas.Bool.{cases_lt}
 use Rattle.std.proofs.lemmas.List.{get_or-map}
 use Rattle.std.proofs.lemmas.Option.{get_or_from_slice_get, slice_get_read}
 use Rattle.std.proofs.lemmas.List.FromFn.{get_or-map-range_with_len}
 use Rattle.std.proofs.Math.Nat.{pow-le-pow_right}
 use Rattle.co_math.specs.Coefficients.{IsDegree}
-use Rattle.co_switch.specs.Keys.{Key, Keys, IsKey, AreKeys, AreKeysOf, key_degree, keys_degree, rotation_key, rotation_element, no_key}
+use Rattle.co_switch.specs.Keys.{Key, Keys, IsKey, AreKeys, key_degree, keys_degree, rotation_key, rotation_element, no_key}
 use Rattle.co_rot.specs.Bits.{lowest_bit}
 use Rattle.co_rot.proofs.Turning.{lowest-within}
 use Rattle.co_rot.proofs.Rotated.{AreRotationKeys}

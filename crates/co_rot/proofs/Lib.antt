@@ -1,7 +1,7 @@
 pub mod Lowest
-pub mod Columns
 pub mod Turning
 pub mod Composed
+pub mod Columns
 pub mod Rotated
 pub mod Copies
 pub mod Keyed

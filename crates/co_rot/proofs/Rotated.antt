@@ -1,27 +1,26 @@
 -- What rotations mean.
-use Rattle.std.proofs.Common.{◌≡◌, ℕ, zero, suc, ◌+◌, ◌*◌, ◌/◌, ◌%◌, ◌^◌, ◌<◌, ◌≤◌, refl, sym, ap, subst, ◌∙◌, ⊎_elim, arith, ℤ, pos, ◌*ℤ◌, List, length, get_or, map, All}
+use Rattle.std.proofs.Common.{◌≡◌, ℕ, zero, suc, ◌+◌, ◌*◌, ◌%◌, ◌^◌, ◌<◌, ◌≤◌, sym, ap, subst, ◌∙◌, ⊎_elim, arith, ℤ, length}
 use Rattle.std.proofs.lemmas.Bool.{cases_eq}
 use Rattle.std.proofs.lemmas.Nat.{pow-add}
 use Rattle.co_rot.proofs.Lowest.{set_bits-zero}
 use Rattle.co_math.specs.Parameters.{plain_modulus, q}
 use Rattle.co_math.specs.Bounds.{switch_bound}
 use Rattle.co_math.specs.Coefficients.{IsDegree}
-use Rattle.co_math.specs.Meanings.{Means}
-use Rattle.co_math.specs.Polynomials.{IsWrapped, substituted}
+use Rattle.co_math.specs.Polynomials.{IsWrapped}
 use Rattle.co_math.proofs.Residues.{cong_from}
-use Rattle.co_math.proofs.Agreements.{Agree}
 use Rattle.co_bfv.specs.Ciphertexts.{Ciphertext, IsCiphertext, ciphertext_degree, MeansWithin}
-use Rattle.co_bfv.proofs.Listed.{degree_positive, length-residues_of}
+use Rattle.co_bfv.proofs.Listed.{length-residues_of}
 use Rattle.co_bfv.proofs.Combined.{residues_whole}
 use Rattle.co_bfv.proofs.Meant.{means_same}
-use Rattle.co_switch.specs.Keys.{Key, Keys, IsKey, IsGoodKey, AreKeys, AreKeysOf, key_degree, keys_degree, rotation_key, rotation_element, no_key}
+use Rattle.co_switch.specs.Keys.{Key, Keys, IsKey, IsGoodKey, key_degree, rotation_key}
 use Rattle.co_switch.specs.Substitutions.{substitution}
 use Rattle.co_switch.specs.Switches.{switched}
 use Rattle.co_switch.proofs.Switched.{switched_means, degree-switched}
-use Rattle.co_rot.specs.Bits.{IsLowestBit, lowest_bit, parent_of, set_bits}
+use Rattle.co_rot.specs.Bits.{lowest_bit, parent_of, set_bits}
 use Rattle.co_rot.specs.Rotations.{rotation, rotations, MeansTurned}
-use Rattle.co_rot.proofs.Turning.{lowest-is, lowest-within, parent-plus, parent-lt, rotation-step, rotation-zero, parent_bits, fits_word}
-use Rattle.co_rot.proofs.Composed.{odd-three, substitution-substitution, substitution-mod, substitution-one, turned-wrapped, slots-turned}
+use Rattle.co_rot.proofs.Turning.{lowest-within, parent-plus, parent-lt, rotation-step, rotation-zero, parent_bits, fits_word}
+use Rattle.co_rot.proofs.Composed.{odd-three, substitution-substitution, substitution-mod, substitution-one, turned-wrapped}
+use Rattle.co_rot.proofs.Columns.{slots-turned}
 
 -- a switch gives a ciphertext
 pub switched-IsCiphertext : (key : Key) (c : Ciphertext) → IsDegree (ciphertext_degree c) → IsCiphertext (switched key c)

@@ -1,5 +1,5 @@
 -- Rotations of a ciphertext: each is made from the one without its lowest set bit.
-use Rattle.std.specs.Prelude.{ℕ, ℤ, zero, suc, pos, ◌≡◌, ◌<◌, ◌≤◌, ◌+◌, ◌*◌, ◌^◌, ◌==◌, if◌then◌else◌, List, [], map, length, All, Some, slice_get}
+use Rattle.std.specs.Prelude.{ℕ, ℤ, zero, suc, ◌≡◌, ◌<◌, ◌≤◌, ◌+◌, ◌*◌, ◌^◌, ◌==◌, if◌then◌else◌, List, [], map, length, All, Some, slice_get}
 use Rattle.std.specs.List.{range_with_len}
 use Rattle.co_math.specs.Bounds.{switch_bound}
 use Rattle.co_math.specs.Polynomials.{IsWrapped}

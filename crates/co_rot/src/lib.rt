@@ -5,7 +5,8 @@
 //! X^(3^i) for X: slot (h, j) is what slot (h, (j + i) mod n / 2) was, at one switch of noise for
 //! each set bit of i.
 //! Here are all n / 2 rotations in order, in n / 2 - 1 steps.
-//! Not here: what a switch is and costs (co_switch), what rotations are multiplied with (co_matvec).
+//! Not here: what a switch is and costs (co_switch), what slots are (co_slots), what rotations are
+//! multiplied with (co_matvec).
 #![tactic(auto)]
 
 mod parents;
@@ -14,4 +15,4 @@ mod rotating;
 mod tests;
 
 pub use parents::parent;
-pub use rotating::{all_rotations, rotation_keys};
+pub use rotating::all_rotations;

@@ -15,7 +15,7 @@ use co_switch::{GaloisKey, KeySet, Steps, apply};
 use std::alloc::{AllocError, Global};
 
 /// The keys of the rotations, each of which is a key.
-pub fn rotation_keys(keys: &KeySet) -> &[GaloisKey]
+fn rotation_keys(keys: &KeySet) -> &[GaloisKey]
     ensures value { result.now ≡ keys.now.rotations }
     ensures keys { AreKeys keys.now }
     ensures each { All IsKey keys.now.rotations }

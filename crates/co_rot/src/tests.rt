@@ -43,23 +43,27 @@ fn numbered<R: Rng>(alloc: Global, secret: &Secret, rng: &mut R) -> Result<Ciphe
     encrypt(alloc, secret, &plain, rng)
 }
 
-/// Whether a rotation opens to the slots that stood `i` columns further in both rows.
-fn opens(alloc: Global, secret: &Secret, turned: &Cipher, i: usize) -> Result<bool, AllocError> {
+/// Whether a rotation opens to these slots.
+fn opens(
+    alloc: Global,
+    secret: &Secret,
+    turned: &Cipher,
+    expected: &[u64; 16],
+) -> Result<bool, AllocError> {
     if turned.degree() != secret.degree() {
         return Ok(false);
     }
     let poly = decrypt(alloc, secret, turned)?;
     let slots = decode_slots(alloc, &poly)?;
-    for p in 0..slots.len() {
-        let expected = if p < 8 { (p + i) % 8 } else { 8 + (p + i) % 8 };
-        if slots[p] != expected as u64 + 1 {
-            return Ok(false);
-        }
-    }
-    Ok(true)
+    Ok(slots.as_slice() == expected)
 }
 
-fn all_open<R: Rng>(alloc: Global, tested: &Tested, rng: &mut R) -> Result<bool, AllocError> {
+/// Whether the rotations of a drawn encryption have these digests and open to these slots.
+fn rotations_read<R: Rng>(
+    alloc: Global,
+    tested: &Tested,
+    rng: &mut R,
+) -> Result<bool, AllocError> {
     let degree = Degree::of(tested.shape().degree() as usize);
     let secret = sample_secret(alloc, degree, rng)?;
     let keys = make_keys(alloc, tested, &secret, rng)?;
@@ -69,15 +73,12 @@ fn all_open<R: Rng>(alloc: Global, tested: &Tested, rng: &mut R) -> Result<bool,
     let query = numbered(alloc, &secret, rng)?;
     let mut steps = Steps::begin();
     let all = all_rotations(alloc, &query, &keys, &mut steps)?;
-    for i in 0..all.len() {
-        if i >= 8 || !opens(alloc, &secret, &all[i], i % 8)? {
-            return Ok(false);
-        }
-        if !wire::cipher_reads(alloc, &all[i], rows::DIGESTS[i])? {
+    for (turned, (digest, slots)) in all.iter().zip(&rows::ROTATIONS) {
+        if !wire::cipher_reads(alloc, turned, digest)? || !opens(alloc, &secret, turned, slots)? {
             return Ok(false);
         }
     }
-    Ok(all.len() == 8)
+    Ok(all.len() == rows::ROTATIONS.len())
 }
 
 #[test]
@@ -87,7 +88,7 @@ fn rotations(rt: HostRuntime) -> Result<(), AllocError> {
         return Ok(());
     };
     let mut words = SplitMix64::seed_from_u64(9100);
-    assert!(rt; all_open(rt.alloc(), &tested, &mut words)?);
+    assert!(rt; rotations_read(rt.alloc(), &tested, &mut words)?);
     Ok(())
 }
 

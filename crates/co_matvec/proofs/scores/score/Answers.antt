@@ -4,6 +4,7 @@ use Rattle.co_bfv.specs.Ciphertexts.{Ciphertext}
 use Rattle.co_rot.proofs.Growing.{none_risen}
 use Rattle.co_matvec.specs.Weights.{keyword_blocks}
 use Rattle.co_matvec.proofs.Filling.{whole_kept}
+use Rattle.co_matvec.proofs.Only.{replies_only}
 use Rattle.co_matvec.proofs.Scoring.{AreScored, none_scored, one_scored, cut_short, all_scored, all_risen, all_shown, all_scores}
 use Rattle.co_matvec.proofs.scores.score.Goals as goal
 
@@ -30,6 +31,12 @@ pub returns-clause-replies : goal.returns-clause-replies
 returns-clause-replies g c =
     let end : c.loop-k.k ≡ length c.args.query.now = omega arith in
     all_scored c.args.weights.now c.args.keys.now c.args.query.now c.loop-k.replies.items c.loop-k.k c.args.steps.now c.loop-k.steps c.loop-k.invariant (end ∙ c.requires.blocks)
+
+pub returns-clause-only : goal.returns-clause-only
+returns-clause-only g c =
+    let end : c.loop-k.k ≡ length c.args.query.now = omega arith in
+    replies_only c.args.weights.now c.args.keys.now c.args.query.now c.loop-k.replies.items c.degree.ensures.degree
+    (all_scored c.args.weights.now c.args.keys.now c.args.query.now c.loop-k.replies.items c.loop-k.k c.args.steps.now c.loop-k.steps c.loop-k.invariant (end ∙ c.requires.blocks))
 
 pub returns-clause-meaning : goal.returns-clause-meaning
 returns-clause-meaning g c =

@@ -1,5 +1,5 @@
 -- The key of the lowest set bit is one of the keys, of the parent's degree.
-use Rattle.std.proofs.Common.{◌≡◌, ℕ, sym, ap, subst, ◌∙◌, arith, IfOk, get_or}
+use Rattle.std.proofs.Common.{◌≡◌, sym, ap, subst, ◌∙◌, arith, IfOk, get_or}
 use Rattle.co_bfv.specs.Ciphertexts.{Ciphertext, ciphertext_degree}
 use Rattle.co_switch.specs.Switches.{switched}
 use Rattle.co_rot.specs.Bits.{parent_of}
