@@ -55,7 +55,7 @@ fn opens(
     }
     let poly = decrypt(alloc, secret, turned)?;
     let slots = decode_slots(alloc, &poly)?;
-    Ok(slots.as_slice() == expected)
+    Ok(slots.as_slice() == expected.as_slice())
 }
 
 /// Whether the rotations of a drawn encryption have these digests and open to these slots.

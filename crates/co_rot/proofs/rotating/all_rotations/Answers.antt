@@ -1,5 +1,5 @@
 -- Each rotation is made from an earlier one.
-use Rattle.std.proofs.Common.{◌≡◌, ℕ, ◌+◌, ◌-◌, ◌/◌, ◌^◌, ◌≤◌, ◌++◌, ◌∷◌, [], refl, sym, ap, subst, ◌∙◌, arith, List, length}
+use Rattle.std.proofs.Common.{◌≡◌, ℕ, ◌-◌, ◌/◌, ◌^◌, ◌≤◌, ◌++◌, ◌∷◌, [], refl, sym, ap, subst, ◌∙◌, arith, List, length}
 use Rattle.co_bfv.specs.Ciphertexts.{Ciphertext}
 use Rattle.co_switch.specs.Keys.{keys_degree}
 use Rattle.co_rot.proofs.Growing.{AreTurned, one_turned, length_of_turned, set_degree, set_more, set_risen, set_risen_more, all_turned, all_mean, all_steps, none_risen, below_half, at_half, one_below}
