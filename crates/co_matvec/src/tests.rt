@@ -1,6 +1,6 @@
 //! Worked values: the replies to drawn queries by the digest of their bytes, and what they open to.
 
-ghost use Rattle.std.specs.Prelude.{◌≡◌, ◌<◌, ◌*◌, length, IsTrue, IfOk, IfSome, All};
+ghost use Rattle.std.specs.Prelude.{ℕ, ◌≡◌, ◌+◌, ◌<◌, length, slice_index_or, IsTrue, IfOk, IfSome, All};
 ghost use Rattle.co_bfv.specs.Ciphertexts.{ciphertext_degree};
 ghost use Rattle.co_math.specs.Coefficients.{AreBelow};
 ghost use Rattle.co_switch.specs.Keys.{keys_degree};
@@ -74,19 +74,36 @@ fn precedes(entry: &(u32, u32, u16), next: &(u32, u32, u16)) -> bool
     entry.0 < next.0 || entry.0 == next.0 && entry.1 < next.1
 }
 
-/// Whether entries are in range and ascend.
-fn are_entries(documents: u32, terms: u32, entries: &[(u32, u32, u16)]) -> bool
-    ensures { IsTrue result → AreEntries documents terms entries.now }
+/// Whether all entries are in range.
+fn are_within(documents: u32, terms: u32, entries: &[(u32, u32, u16)]) -> bool
+    ensures { IsTrue result → All (λ e. (e.0 < terms) × (e.1 < documents)) entries.now }
 {
-    for i in 0..entries.len() {
-        if !is_within(documents, terms, &entries[i]) {
-            return false;
-        }
-        if i > 0 && !precedes(&entries[i - 1], &entries[i]) {
+    for entry in entries {
+        if !is_within(documents, terms, entry) {
             return false;
         }
     }
     true
+}
+
+/// Whether each entry comes before the next.
+fn ascend(entries: &[(u32, u32, u16)]) -> bool
+    ensures { IsTrue result → (i : ℕ) (d : ℕ × ℕ × ℕ) → i + 1 < length entries.now
+        → Precedes (slice_index_or entries.now i d) (slice_index_or entries.now (i + 1) d) }
+{
+    for next in 1..entries.len() {
+        if !precedes(&entries[next - 1], &entries[next]) {
+            return false;
+        }
+    }
+    true
+}
+
+/// Whether entries are in range and ascend.
+fn are_entries(documents: u32, terms: u32, entries: &[(u32, u32, u16)]) -> bool
+    ensures { IsTrue result → AreEntries documents terms entries.now }
+{
+    are_within(documents, terms, entries) && ascend(entries)
 }
 
 fn weights(alloc: Global, degree: Degree, row: &Row) -> Result<Option<Weights>, AllocError>
