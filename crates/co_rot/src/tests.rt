@@ -59,11 +59,7 @@ fn opens(
 }
 
 /// Whether the rotations of a drawn encryption have these digests and open to these slots.
-fn rotations_read<R: Rng>(
-    alloc: Global,
-    tested: &Tested,
-    rng: &mut R,
-) -> Result<bool, AllocError> {
+fn rotations_read<R: Rng>(alloc: Global, tested: &Tested, rng: &mut R) -> Result<bool, AllocError> {
     let degree = Degree::of(tested.shape().degree() as usize);
     let secret = sample_secret(alloc, degree, rng)?;
     let keys = make_keys(alloc, tested, &secret, rng)?;
