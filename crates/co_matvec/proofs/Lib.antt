@@ -1,0 +1,10 @@
+pub mod Doubled
+pub mod Keywords
+pub mod Filling
+pub mod Scored
+pub mod Made
+pub mod Adding
+pub mod Blocks
+pub mod Shown
+pub mod Scoring
+pub mod Only
