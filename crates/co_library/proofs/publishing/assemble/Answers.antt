@@ -36,7 +36,7 @@ into_library-requires c =
     is_library documents s c.requires.settings c.requires.corpus p.size p.places p.bins c.requires.sized c.requires.packed
     c.shape_of-shape.result c.args.index.terms c.args.index.weights c.in_ok-records.records c.in_ok-filled.filled
     (c.shape_of-shape.ensures.value ∙ ap (λ (terms : ℕ). shape_for s (length documents) terms p.bins p.size) (c.len-terms.ensures ∙ ap length c.requires.index.terms))
-    c.requires.index.terms c.are_text.ensures c.requires.index.weights c.requires.few
+    c.requires.index.terms c.requires.text c.requires.index.weights c.requires.few
     (c.in_ok-records.ensures.value ∙ ap (records_from 0 documents) c.as_slice.ensures) c.in_ok-records.ensures.long
     (subst (λ (places : List Place). AreBins p.size (texts_of documents) places c.in_ok-filled.filled) c.as_slice-2.ensures c.in_ok-filled.ensures.value) c.in_ok-filled.ensures.long
     c.requires.fits c.shape_of-shape.ensures.ranges
