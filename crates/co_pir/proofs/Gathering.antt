@@ -2,7 +2,7 @@
 use Rattle.std.proofs.Common.{◌≡◌, ℕ, suc, ◌+◌, ◌*◌, ◌-◌, ◌<◌, ◌≤◌, refl, sym, ap, subst, ◌∙◌, arith, ℤ, ◌^◌, List, [], ◌∷◌, ◌++◌, length, get_or, take, drop, map}
 use Rattle.std.specs.Prelude.{All}
 use Rattle.std.specs.List.{range_with_len}
-use Rattle.std.proofs.lemmas.List.{length-take, length-drop}
+use Rattle.std.proofs.lemmas.List.{length-take, length-drop, get_or-take, get_or-drop}
 use Rattle.std.proofs.lemmas.List.Elements.{All-get_or, All-from_get_or}
 use Rattle.std.proofs.lemmas.List.FromFn.{fill_by_all, map-range_with_len_more, length-map-range_with_len, get_or-map-range_with_len}
 use Rattle.std.proofs.Math.Nat.{mul-le-mul_left, mul-le-mul_right}
@@ -10,14 +10,14 @@ use Rattle.co_ring.specs.Polynomials.{Polynomial}
 use Rattle.co_ring.specs.declared.moduli.Modulus.TheVariants.{Plain}
 use Rattle.co_slots.specs.Payloads.{IsPayload}
 use Rattle.co_math.specs.Polynomials.{IsWrapped}
-use Rattle.co_math.specs.Coefficients.{coefficients}
+use Rattle.co_math.specs.Coefficients.{coefficients, AreBelow}
 use Rattle.co_noise.specs.Shapes.{log2_up}
 use Rattle.co_noise.specs.Bounds.{retrieve_bound}
 use Rattle.co_bfv.specs.Ciphertexts.{Ciphertext, IsCiphertext, MeansWithin, ciphertext_degree, ciphertext_sum, plain_product, zero_ciphertext}
 use Rattle.co_switch.specs.Keys.{Keys}
 use Rattle.co_pir.specs.Expansions.{expanded}
 use Rattle.co_pir.specs.Messages.{chosen}
-use Rattle.co_pir.specs.Meanings.{AsksRow, expansion_bound}
+use Rattle.co_pir.specs.Meanings.{AsksRow, MeansBytes, expansion_bound}
 use Rattle.co_pir.proofs.Expanding.{IsOfDegree, expanded-IsOfDegree, length-expanded}
 use Rattle.co_pir.specs.Sums.{ciphertext_total}
 use Rattle.co_pir.specs.Tables.{Table, IsTable, piece, row_bytes, chunk_bytes, payload, payload_at}
@@ -32,8 +32,9 @@ payload-is n bytes coeffs h e =
     let len : length coeffs ≡ n = omega (arith, h.len) in
     fill_by_all (λ k. 256 * get_or bytes (2 * k) 0 + get_or bytes (2 * k + 1) 0) coeffs n 0 len (λ k l. h.each k (omega arith))
 
-pub polynomial-is : (n : ℕ) (bytes : List ℕ) (p : Polynomial) → p.modulus ≡ Plain → IsPayload bytes p.coeffs → length bytes ≡ 2 * n → p ≡ record { modulus = Plain; coeffs = payload n bytes }
-polynomial-is n bytes p e h l i = record { modulus = e i; coeffs = payload-is n bytes p.coeffs h l i }
+pub chunk-polynomial : (t : Table) (row chunk : ℕ) (bytes : List ℕ) (p : Polynomial) → p.modulus ≡ Plain → IsPayload bytes p.coeffs → length bytes ≡ 2 * t.degree → bytes ≡ chunk_bytes t row chunk
+    → p ≡ record { modulus = Plain; coeffs = payload_at t row chunk }
+chunk-polynomial t row chunk bytes p e h l f i = record { modulus = e i; coeffs = (payload-is t.degree bytes p.coeffs h l ∙ ap (payload t.degree) f) i }
 
 -- the place of a piece
 pub piece-room : (size place count : ℕ) → place < count → place * size + size ≤ count * size
@@ -44,6 +45,10 @@ piece-room size place count l =
 
 pub length-piece : (size place : ℕ) (bytes : List ℕ) → place * size + size ≤ length bytes → length (piece size place bytes) ≡ size
 length-piece size place bytes l = length-take size (drop (place * size) bytes) ∙ omega (arith, length-drop (place * size) bytes)
+
+pub piece-below : (size place i : ℕ) (bytes : List ℕ) → AreBelow 256 bytes → place * size + size ≤ length bytes → i < size → get_or (piece size place bytes) i 0 < 256
+piece-below size place i bytes h room l =
+    subst (λ (v : ℕ). v < 256) (sym (get_or-take size (drop (place * size) bytes) i 0 l ∙ get_or-drop (place * size) bytes i 0)) (h (place * size + i) (omega arith))
 
 -- the sum over the first rows
 pub partial : Table → List Ciphertext → ℕ → ℕ → Ciphertext
@@ -101,19 +106,24 @@ table_reply-degrees t cs rs e =
     ap (λ (x : List Ciphertext). ciphertext_degree (ciphertext_at x i)) e ∙ ap (λ (c : Ciphertext). ciphertext_degree c) (table_reply-at t cs i low)
     ∙ ciphertext_total-degree t.degree t.rows (λ r. plain_product (ciphertext_at cs r) (payload_at t r i)))
 
+-- an expansion for so many rows, and what it means
+pub record IsExpansion (keys : Keys) (query : Ciphertext) (rows : ℕ) (cs : List Ciphertext) : Type 0 where
+  pub items : cs ≡ expanded keys query (log2_up rows)
+  pub enough : rows ≤ length cs
+  pub means : (s : ℤ → ℤ) (row r : ℕ) → AsksRow s keys query rows row → r < rows → MeansWithin s (ciphertext_at cs r) (chosen (ciphertext_degree query) row r) (expansion_bound (ciphertext_degree query) rows)
+
 -- what a reply means, by what its expanded query means
-pub reply_means : (keys : Keys) (query : Ciphertext) (t : Table) (cs rs : List Ciphertext) → IsTable t → IsCiphertext query → ciphertext_degree query ≡ t.degree → cs ≡ expanded keys query (log2_up t.rows) → t.rows ≤ length cs
-    → ((s : ℤ → ℤ) (row r : ℕ) → AsksRow s keys query t.rows row → r < t.rows → MeansWithin s (ciphertext_at cs r) (chosen (ciphertext_degree query) row r) (expansion_bound (ciphertext_degree query) t.rows))
-    → rs ≡ table_reply t cs → (s : ℤ → ℤ) (row chunk : ℕ) → AsksRow s keys query t.rows row → chunk < t.chunks → MeansWithin s (ciphertext_at rs chunk) (coefficients (payload_at t row chunk)) (retrieve_bound t.degree t.rows)
-reply_means keys query t cs rs table whole degree items enough means e s row chunk asks l =
+pub reply_means : (keys : Keys) (query : Ciphertext) (t : Table) (cs rs : List Ciphertext) → IsTable t → IsCiphertext query → ciphertext_degree query ≡ t.degree → IsExpansion keys query t.rows cs → rs ≡ table_reply t cs
+    → (s : ℤ → ℤ) (row chunk : ℕ) → AsksRow s keys query t.rows row → chunk < t.chunks → MeansWithin s (ciphertext_at rs chunk) (coefficients (payload_at t row chunk)) (retrieve_bound t.degree t.rows)
+reply_means keys query t cs rs table whole degree h e s row chunk asks l =
     let place : ciphertext_at rs chunk ≡ chunk_reply t cs chunk = ap (λ (xs : List Ciphertext). ciphertext_at xs chunk) e ∙ table_reply-at t cs chunk l in
-    let count : length cs ≡ 2 ^ log2_up t.rows = ap length items ∙ length-expanded keys query (log2_up t.rows) in
+    let count : length cs ≡ 2 ^ log2_up t.rows = ap length h.items ∙ length-expanded keys query (log2_up t.rows) in
     subst (λ (c : Ciphertext). MeansWithin s c (coefficients (payload_at t row chunk)) (retrieve_bound t.degree t.rows)) (sym place)
     (subst (λ (b : ℕ). MeansWithin s (chunk_reply t cs chunk) (coefficients (payload_at t row chunk)) b) (retrieve-bound t.degree t.rows)
     (chunk_means t cs s row chunk (expansion_bound t.degree t.rows) table.degree (subst (λ (n : ℕ). IsWrapped n s) degree asks.secret) asks.within
-    (λ r u. subst (λ (xs : List Ciphertext). IsOfDegree t.degree (ciphertext_at xs r)) (sym items)
-    (subst (λ (n : ℕ). IsOfDegree n (ciphertext_at (expanded keys query (log2_up t.rows)) r)) degree (expanded-IsOfDegree keys query (log2_up t.rows) r whole (omega (arith, count)))))
-    (λ r u. subst (λ (n : ℕ). MeansWithin s (ciphertext_at cs r) (chosen n row r) (expansion_bound n t.rows)) degree (means s row r asks u))))
+    (λ r u. subst (λ (xs : List Ciphertext). IsOfDegree t.degree (ciphertext_at xs r)) (sym h.items)
+    (subst (λ (n : ℕ). IsOfDegree n (ciphertext_at (expanded keys query (log2_up t.rows)) r)) degree (expanded-IsOfDegree keys query (log2_up t.rows) r whole (omega (arith, count, h.enough)))))
+    (λ r u. subst (λ (n : ℕ). MeansWithin s (ciphertext_at cs r) (chosen n row r) (expansion_bound n t.rows)) degree (h.means s row r asks u))))
 
 -- the bytes of a chunk lie inside
 pub row-room : (t : Table) (row : ℕ) → IsTable t → row < t.rows → row * (t.chunks * (2 * t.degree)) + t.chunks * (2 * t.degree) ≤ length t.bytes
@@ -123,6 +133,23 @@ pub length-row : (t : Table) (row : ℕ) → IsTable t → row < t.rows → leng
 unfolding row_bytes
 length-row t row h l = length-piece (t.chunks * (2 * t.degree)) row t.bytes (row-room t row h l)
 
+row-below : (t : Table) (row i : ℕ) → IsTable t → row < t.rows → i < t.chunks * (2 * t.degree) → get_or (row_bytes t row) i 0 < 256
+unfolding row_bytes
+row-below t row i h l u = piece-below (t.chunks * (2 * t.degree)) row i t.bytes h.below (row-room t row h l) u
+
 pub chunk-is : (t : Table) (row chunk size : ℕ) (bytes whole one : List ℕ) → size ≡ 2 * t.degree → bytes ≡ t.bytes → whole ≡ piece (t.chunks * size) row bytes → one ≡ piece size chunk whole → one ≡ chunk_bytes t row chunk
 unfolding chunk_bytes row_bytes
 chunk-is t row chunk size bytes whole one e f g h = h ∙ (λ i. piece (e i) chunk ((g ∙ (λ j. piece (t.chunks * e j) row (f j))) i))
+
+-- all chunks of a reply together mean the bytes of the row that is asked
+pub row_means : (keys : Keys) (query : Ciphertext) (t : Table) (cs rs : List Ciphertext) → IsTable t → IsCiphertext query → ciphertext_degree query ≡ t.degree → IsExpansion keys query t.rows cs → rs ≡ table_reply t cs
+    → (s : ℤ → ℤ) (row : ℕ) → AsksRow s keys query t.rows row → MeansBytes t.degree s rs (row_bytes t row) (retrieve_bound t.degree t.rows)
+unfolding chunk_bytes
+row_means keys query t cs rs table whole degree h e s row asks =
+    let count : length rs ≡ t.chunks = ap length e ∙ length-table_reply t cs in
+    let len = length-row t row table asks.within in
+    record {
+      len = len ∙ ap (λ (k : ℕ). k * (2 * t.degree)) (sym count);
+      below = λ i u. row-below t row i table asks.within (omega (arith, len));
+      means = λ c u. reply_means keys query t cs rs table whole degree h e s row c asks (omega (arith, count));
+    }

@@ -6,7 +6,7 @@ use Rattle.co_math.specs.Sums.{total}
 use Rattle.co_math.specs.Polynomials.{IsWrapped, product, unit}
 use Rattle.co_math.specs.Meanings.{centred}
 use Rattle.co_math.specs.Coefficients.{coefficients, IsDegree}
-use Rattle.co_math.specs.Bounds.{fresh_bound, switch_bound, most_centred}
+use Rattle.co_math.specs.Bounds.{fresh_bound, switch_bound}
 use Rattle.co_math.proofs.Integers.{mul-zero}
 use Rattle.co_math.proofs.Residues.{cong_from, cong-trans, cong-sym}
 use Rattle.co_math.proofs.Totals.{total-same, total-none, total-single}

@@ -29,7 +29,7 @@ use Rattle.co_pir.specs.Replies.{ciphertext_at}
 use Rattle.co_pir.specs.Meanings.{MeansBytes}
 use Rattle.co_pir.specs.Openings.{opened_reply, IsOpened, IsNoByteFrom, IsCauseFrom}
 use Rattle.co_pir.proofs.Replied.{length-payload}
-use Rattle.co_pir.proofs.Gathering.{piece-room, length-piece}
+use Rattle.co_pir.proofs.Gathering.{piece-room, length-piece, piece-below}
 
 -- payloads one after another
 pub payload-append : (us vs xs ys : List ℕ) → IsPayload us xs → IsPayload vs ys → IsPayload (us ++ vs) (xs ++ ys)
@@ -142,10 +142,6 @@ opening-fault secret reply n i c bytes (NotByte place) d h l e f =
         ∙ ap (λ (x : List ℕ). x ++ opened_reply secret (drop (i + 1) reply)) (front-more secret reply i l)
 
 -- ---- what a reply that means bytes opens to
-
-piece-below : (size place i : ℕ) (bytes : List ℕ) → AreBelow 256 bytes → place * size + size ≤ length bytes → i < size → get_or (piece size place bytes) i 0 < 256
-piece-below size place i bytes h room l =
-    subst (λ (v : ℕ). v < 256) (sym (get_or-take size (drop (place * size) bytes) i 0 l ∙ get_or-drop (place * size) bytes i 0)) (h (place * size + i) (omega arith))
 
 payload-spelled : (n place : ℕ) (bytes : List ℕ) → AreBelow 256 bytes → place * (2 * n) + 2 * n ≤ length bytes → IsPayload (piece (2 * n) place bytes) (payload n (piece (2 * n) place bytes))
 unfolding payload

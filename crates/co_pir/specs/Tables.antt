@@ -1,7 +1,7 @@
 -- Rows of bytes, and their payload polynomials.
 use Rattle.std.specs.Prelude.{ℕ, ◌+◌, ◌*◌, ◌<◌, ◌≤◌, ◌≡◌, List, length, map, take, drop, slice_index}
 use Rattle.std.specs.List.{range_with_len}
-use Rattle.co_math.specs.Coefficients.{IsDegree}
+use Rattle.co_math.specs.Coefficients.{IsDegree, AreBelow}
 
 -- rows of equal length, each of so many chunks, a chunk being the 2 * degree bytes of one polynomial
 pub record Table : Type 0 where
@@ -16,6 +16,7 @@ pub record IsTable (t : Table) : Type 0 where
   pub some : 1 ≤ t.rows
   pub few : t.rows ≤ t.degree
   pub len : length t.bytes ≡ t.rows * (t.chunks * (2 * t.degree))
+  pub below : AreBelow 256 t.bytes
 
 -- the piece at a place, of so many pieces of equal length
 abbrev pub piece : ℕ → ℕ → List ℕ → List ℕ

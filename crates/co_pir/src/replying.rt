@@ -1,6 +1,7 @@
 // The reply to a query.
 
-ghost use Rattle.std.specs.Prelude.{ℕ, ℤ, ◌≡◌, ◌-◌, ◌*◌, ◌^◌, ◌<◌, ◌≤◌, length, All, IfOk, OnOk, OnErr};
+ghost use Rattle.std.specs.Prelude.{ℕ, ℤ, ◌≡◌, ◌+◌, ◌-◌, ◌*◌, ◌/◌, ◌^◌, ◌<◌, ◌≤◌, length, All, IfOk, OnOk, OnErr};
+ghost use Rattle.std.specs.Int.{div_ceil};
 ghost use Rattle.co_math.specs.Coefficients.{coefficients};
 ghost use Rattle.co_noise.specs.Shapes.{log2_up};
 ghost use Rattle.co_noise.specs.Bounds.{retrieve_bound};
@@ -8,10 +9,10 @@ ghost use Rattle.co_bfv.specs.Ciphertexts.{MeansWithin, ciphertext_degree, ciphe
 ghost use Rattle.co_switch.specs.Keys.{keys_degree};
 ghost use Rattle.co_switch.specs.Steps.{raised};
 ghost use Rattle.co_pir.specs.Expansions.{expanded};
-ghost use Rattle.co_pir.specs.Meanings.{AsksRow};
+ghost use Rattle.co_pir.specs.Meanings.{AsksRow, MeansBytes};
 ghost use Rattle.co_pir.specs.Replies.{ciphertext_at, chunk_reply, table_reply};
 ghost use Rattle.co_pir.specs.Steps.{IsRaisedAtMost};
-ghost use Rattle.co_pir.specs.Tables.{payload_at};
+ghost use Rattle.co_pir.specs.Tables.{payload_at, row_bytes};
 
 use crate::expansion::expand;
 use crate::table::Rows;
@@ -23,11 +24,21 @@ use std::alloc::{AllocError, Global};
 /// How many rows a unit of work has.
 const UNIT: u32 = 64;
 
+/// The number of the unit that a row of a chunk belongs to.
+fn unit_of(rows: u32, chunk: u32, row: u32) -> u64
+    requires { row < rows }
+    ensures { result ≡ chunk * div_ceil rows 64 + row / 64 }
+{
+    let units = rows.div_ceil(UNIT);
+    chunk as u64 * units as u64 + (row / UNIT) as u64
+}
+
 /// Tells the gate of a unit, where a row is the first of one.
-fn tell<G: Gate>(gate: &G, rows: u32, chunk: u32, row: u32) {
+fn tell<G: Gate>(gate: &G, rows: u32, chunk: u32, row: u32)
+    requires { row < rows }
+{
     if row % UNIT == 0 {
-        let units = rows.div_ceil(UNIT) as u64;
-        gate.begin(chunk as u64 * units + (row / UNIT) as u64);
+        gate.begin(unit_of(rows, chunk, row));
     }
 }
 
@@ -114,10 +125,15 @@ pub fn answer<G: Gate, L>(
     ensures degrees { IfOk result (λ cs. All (λ c. ciphertext_degree c ≡ rows.now.degree) cs.items) }
     ensures meaning { IfOk result (λ cs. (s : ℤ → ℤ) (row chunk : ℕ) → AsksRow s keys.now query.now rows.now.rows row → chunk < rows.now.chunks
         → MeansWithin s (ciphertext_at cs.items chunk) (coefficients (payload_at rows.now row chunk)) (retrieve_bound rows.now.degree rows.now.rows)) }
+    ensures row { IfOk result (λ cs. (s : ℤ → ℤ) (row : ℕ) → AsksRow s keys.now query.now rows.now.rows row
+        → MeansBytes rows.now.degree s cs.items (row_bytes rows.now row) (retrieve_bound rows.now.degree rows.now.rows)) }
     ensures steps { OnOk result (steps.new ≡ raised steps.old (2 ^ log2_up rows.now.rows - 1)) }
     ensures few_steps { OnErr result (IsRaisedAtMost steps.old steps.new (2 ^ log2_up rows.now.rows - 1)) }
 {
+    let _ = workers;
     let _degree = rows.degree();
+    let _n = query.degree();
     let ciphers = expand(alloc, query, keys, rows.rows(), steps)?;
-    reply_all(alloc, rows, &ciphers, gate)
+    let replies = reply_all(alloc, rows, &ciphers, gate)?;
+    Ok(replies)
 }

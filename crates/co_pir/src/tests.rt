@@ -56,17 +56,31 @@ fn tested(rows: u32) -> Option<Tested> {
     co_noise::test(&shape).ok()
 }
 
-/// Whether the keys are those of degree 16, and enough for so many rows.
+/// Whether the keys are those of degree 16 for so many rows.
 fn suffices(keys: &KeySet, rows: u32) -> bool
     requires some { 1 ≤ rows }
     requires few { rows ≤ 16 }
     ensures degree { IsTrue result → keys_degree keys.now ≡ 16 }
     ensures enough { IsTrue result → log2_up rows ≤ length keys.now.expansions }
 {
-    keys.rotations().len() == 3 && levels(rows) as usize <= keys.expansions().len()
+    keys.rotations().len() == 3 && levels(rows) as usize == keys.expansions().len()
 }
 
-/// Whether the expansion means 1 at the row that is asked, and 0 at the others.
+/// Whether a ciphertext opens to a constant.
+fn opens_to(
+    alloc: Global,
+    secret: &Secret,
+    cipher: &Cipher,
+    constant: u64,
+) -> Result<bool, AllocError> {
+    if cipher.degree() != secret.degree() {
+        return Ok(false);
+    }
+    let found = decrypt(alloc, secret, cipher)?;
+    Ok(holds_one(&found, 0, constant))
+}
+
+/// Whether the expansion has its digests and means 1 at the row that is asked, and 0 at the others.
 fn expands(
     alloc: Global,
     secret: &Secret,
@@ -74,24 +88,20 @@ fn expands(
     query: &Cipher,
     case: &Retrieval,
 ) -> Result<bool, AllocError>
-    requires secret { length secret.now ≡ 16 }
-    requires query { ciphertext_degree query.now ≡ 16 }
+    requires { ciphertext_degree query.now ≡ 16 }
 {
     if case.rows == 0 || case.rows > 16 || !suffices(keys, case.rows) {
         return Ok(false);
     }
     let mut steps = Steps::begin();
     let ciphers = expand(alloc, query, keys, case.rows, &mut steps)?;
-    for row in 0..case.rows as usize {
-        let found = decrypt(alloc, secret, &ciphers[row])?;
-        if !holds_one(&found, 0, (row == case.row as usize) as u64) {
+    for row in 0..case.rows {
+        let constant = if row == case.row { 1 } else { 0 };
+        if !opens_to(alloc, secret, &ciphers[row as usize], constant)? {
             return Ok(false);
         }
     }
-    match ciphers.get(case.row as usize) {
-        Some(cipher) => wire::reads(alloc, cipher, case.expanded),
-        None => Ok(false),
-    }
+    Ok(wire::each_reads(alloc, &ciphers, case.expanded)?)
 }
 
 /// Whether the reply has its digest and opens to the row's bytes.
@@ -157,5 +167,6 @@ fn retrievals(rt: HostRuntime) -> Result<(), AllocError> {
     for case in &rows::RETRIEVALS {
         assert!(rt; retrieves(rt.alloc(), case)?, "seed {}", case.seed);
     }
+    assert!(rt; retrieves(rt.alloc(), &rows::THIRD_OF_FOUR)?);
     Ok(())
 }
