@@ -1,5 +1,5 @@
 -- What an expansion means, over all its levels.
-use Rattle.std.proofs.Common.{◌≡◌, ℕ, zero, suc, ◌+◌, ◌*◌, ◌-◌, ◌/◌, ◌%◌, ◌^◌, ◌<◌, ◌≤◌, refl, sym, ap, subst, ◌∙◌, ⊎_elim, arith, ℤ, pos, ◌+ℤ◌, ◌*ℤ◌, List, [], ◌∷◌, ◌++◌, length, get_or, map}
+use Rattle.std.proofs.Common.{◌≡◌, ℕ, zero, suc, ◌+◌, ◌*◌, ◌-◌, ◌/◌, ◌%◌, ◌^◌, ◌<◌, ◌≤◌, refl, sym, ap, subst, ◌∙◌, ⊎_elim, arith, ℤ, pos, ◌+ℤ◌, ◌*ℤ◌, List, [], ◌∷◌, length, get_or, map}
 use Rattle.std.proofs.lemmas.Bool.{cases_lt}
 use Rattle.std.proofs.lemmas.Nat.{pow_pos, pow-add}
 use Rattle.std.proofs.lemmas.List.{length-map, length-append, get_or-map, get_or_append_left, get_or-append_right}
@@ -11,9 +11,8 @@ use Rattle.co_math.specs.Polynomials.{IsWrapped}
 use Rattle.co_math.specs.Coefficients.{IsDegree}
 use Rattle.co_math.proofs.Integers.{linear, one-mul}
 use Rattle.co_math.specs.Bounds.{switch_bound}
-use Rattle.co_math.proofs.Expansions.{IsSpread}
 use Rattle.co_bfv.specs.Ciphertexts.{Ciphertext, IsCiphertext, ciphertext_degree, ciphertext_difference, MeansWithin}
-use Rattle.co_switch.specs.Keys.{Key, Keys, IsKey, IsGoodKey, AreKeys, AreGoodKeys, AreKeysOf, key_degree, keys_degree, no_key, expansion_key, expansion_element}
+use Rattle.co_switch.specs.Keys.{Key, Keys, IsKey, IsGoodKey, AreKeys, AreGoodKeys, key_degree, keys_degree, no_key, expansion_key, expansion_element}
 use Rattle.co_pir.specs.Expansions.{kept_half, moved_half, doubled, expanded}
 use Rattle.co_pir.specs.Replies.{ciphertext_at}
 use Rattle.co_switch.specs.Switches.{switched}

@@ -1,5 +1,5 @@
 -- The list of an expansion, as a loop makes it.
-use Rattle.std.proofs.Common.{◌≡◌, ℕ, zero, suc, ◌+◌, ◌*◌, ◌-◌, ◌^◌, ◌<◌, ◌≤◌, refl, sym, ap, subst, ◌∙◌, ⊎_elim, arith, ℤ, List, [], ◌∷◌, ◌++◌, length, get_or}
+use Rattle.std.proofs.Common.{◌≡◌, ℕ, suc, ◌+◌, ◌*◌, ◌-◌, ◌^◌, ◌<◌, ◌≤◌, refl, sym, ap, subst, ◌∙◌, ⊎_elim, arith, ℤ, List, [], ◌∷◌, ◌++◌, length}
 use Rattle.std.specs.Prelude.{All}
 use Rattle.std.proofs.lemmas.Bool.{cases_lt, cases_eq}
 use Rattle.std.proofs.lemmas.Nat.{pow_pos, pow-add}
@@ -17,9 +17,9 @@ use Rattle.co_pir.specs.Replies.{ciphertext_at}
 use Rattle.co_pir.specs.Messages.{chosen}
 use Rattle.co_pir.specs.Meanings.{AsksRow, expansion_bound}
 use Rattle.co_pir.proofs.Inverse.{degree-most}
-use Rattle.co_pir.proofs.Asked.{CanExpand, expanded_means}
+use Rattle.co_pir.proofs.Asked.{expanded_means}
 use Rattle.co_pir.proofs.Rising.{raised-raised, raised-zero, raised_more}
-use Rattle.co_pir.proofs.Expanding.{length-expanded, IsOfDegree, expanded-IsOfDegree}
+use Rattle.co_pir.proofs.Expanding.{length-expanded, expanded-IsOfDegree}
 
 -- after some levels: the list, the keys that were met, and the steps that were made
 pub record IsExpanding (keys : Keys) (query : Ciphertext) (before level : ℕ) (cs : List Ciphertext) (now : ℕ) : Type 0 where

@@ -1,5 +1,5 @@
 -- Counts of steps that rise.
-use Rattle.std.proofs.Common.{◌≡◌, ℕ, ◌+◌, ◌-◌, ◌^◌, ◌<◌, ◌≤◌, min, max, refl, sym, ap, subst, ◌∙◌, arith}
+use Rattle.std.proofs.Common.{◌≡◌, ℕ, ◌+◌, ◌<◌, ◌≤◌, sym, ap, subst, ◌∙◌, arith}
 use Rattle.co_switch.specs.Steps.{raised}
 use Rattle.co_pir.specs.Steps.{IsRaisedAtMost}
 

@@ -126,7 +126,8 @@ fn key_at(keys: &KeySet, level: u32) -> &GaloisKey
 }
 
 /// The expansion of a query: a power of two of ciphertexts, in the order of the rows, and at least
-/// one for each row.
+/// one for each row, in one step less than there are ciphertexts. After want of memory at most as
+/// many steps are counted.
 pub fn expand<L>(
     alloc: Global,
     query: &Cipher,

@@ -102,10 +102,12 @@ fn reply_all<G: Gate>(
     Ok(replies)
 }
 
-/// The reply to a query: one ciphertext for each chunk.
+/// The reply to a query: one ciphertext for each chunk, with the steps of the expansion. After want
+/// of memory at most as many are counted.
 ///
 /// A unit of work is one chunk with 64 rows, the last unit of a chunk with fewer. Units are numbered
-/// from 0, chunk by chunk, and the gate is told of each as it starts.
+/// from 0, chunk by chunk, and the gate is told of each as it starts. The calling thread does them
+/// all, whatever the number of workers.
 pub fn answer<G: Gate, L>(
     alloc: Global,
     rows: &Rows,

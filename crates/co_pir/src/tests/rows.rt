@@ -34,9 +34,7 @@ pub const RETRIEVALS: [Retrieval; 9] = [
         seed: 8001,
         bytes: "ffffff32ff7ccc0011ffdb7f38ff00ffff7dffff00ff0700ffffffc1a2000000",
         query: "9114f02e7575308b3012c11f4f9f97fe3279db1d886e8921bad685e7f1ad12c5",
-        expanded: &[
-            "9114f02e7575308b3012c11f4f9f97fe3279db1d886e8921bad685e7f1ad12c5",
-        ],
+        expanded: &["9114f02e7575308b3012c11f4f9f97fe3279db1d886e8921bad685e7f1ad12c5"],
         reply: "ed3448dbb4bc11aa98852ec70467dc3eb8f62cb31c13b9cdcd45968d043043f2",
     },
     Retrieval {
@@ -46,9 +44,7 @@ pub const RETRIEVALS: [Retrieval; 9] = [
         seed: 8002,
         bytes: "00fffe6a00ff00ff4169000084fffffb00ffd3ffff009cffff00ff28ffbf00ff00ffff00ffd011ff002fff1d0000d9ffff00e3ffc4004012ff7153ff00b4ff0000e9ffffff00ffc4cf9b001383e5aeff00afffff0027ffff4aff00ff2d00c500",
         query: "c2cd38b958170131d9c7fafc6f4250e1e821ccd090e4badba2093026453788d9",
-        expanded: &[
-            "c2cd38b958170131d9c7fafc6f4250e1e821ccd090e4badba2093026453788d9",
-        ],
+        expanded: &["c2cd38b958170131d9c7fafc6f4250e1e821ccd090e4badba2093026453788d9"],
         reply: "489ed2bcfd0e4e28ce28e7e689e70b1dc25a83f80f84aea31b46dff0cdafa414",
     },
     Retrieval {

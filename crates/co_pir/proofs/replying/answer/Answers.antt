@@ -1,11 +1,9 @@
-use Rattle.std.proofs.Common.{◌≡◌, ◌-◌, ◌^◌, ◌∙◌, ℕ, rules, arith, sym, ap, subst, List, length}
+use Rattle.std.proofs.Common.{◌≡◌, ◌-◌, ◌^◌, ◌∙◌, ℕ, rules, arith, sym, ap, subst, length}
 use Rattle.co_noise.specs.Shapes.{log2_up}
-use Rattle.co_bfv.specs.Ciphertexts.{Ciphertext}
-use Rattle.co_pir.specs.Replies.{table_reply}
 use Rattle.co_pir.specs.Steps.{IsRaisedAtMost}
 use Rattle.co_switch.specs.Steps.{raised}
 use Rattle.co_pir.proofs.Rising.{raised_less}
-use Rattle.co_pir.proofs.Gathering.{IsExpansion, reply_means, row_means, length-table_reply, table_reply-degrees}
+use Rattle.co_pir.proofs.Gathering.{expansion_as, reply_means, row_means, length-table_reply, table_reply-degrees}
 use Rattle.co_pir.proofs.replying.answer.Goals as goal
 
 pub returns-in_err-replies-clause-few_steps : goal.returns-in_err-replies-clause-few_steps
@@ -23,18 +21,14 @@ returns-clause-degrees g c = table_reply-degrees c.args.rows.now c.deref.result.
 
 pub returns-clause-meaning : goal.returns-clause-meaning
 returns-clause-meaning g c =
-    let cs = c.in_ok-ciphers.ciphers.items in
-    let h : IsExpansion c.args.keys.now c.args.query.now c.args.rows.now.rows cs =
-    subst (λ (k : ℕ). IsExpansion c.args.keys.now c.args.query.now k cs) c.rows.ensures
-    (record { items = c.in_ok-ciphers.ensures.value; enough = c.in_ok-ciphers.ensures.enough; means = c.in_ok-ciphers.ensures.meaning }) in
-    reply_means c.args.keys.now c.args.query.now c.args.rows.now cs c.in_ok-replies.replies.items c.degree-degree.ensures.table c.degree-n.ensures.ciphertext c.requires.one_degree h
-    (c.in_ok-replies.ensures ∙ ap (λ (xs : List Ciphertext). table_reply c.args.rows.now xs) c.deref.ensures.value)
+    reply_means c.args.keys.now c.args.query.now c.args.rows.now c.deref.result.now c.in_ok-replies.replies.items c.degree-degree.ensures.table c.degree-n.ensures.ciphertext c.requires.one_degree
+    (expansion_as c.args.keys.now c.args.query.now c.rows.result c.args.rows.now.rows c.in_ok-ciphers.ciphers.items c.deref.result.now c.rows.ensures c.deref.ensures.value
+    (record { items = c.in_ok-ciphers.ensures.value; enough = c.in_ok-ciphers.ensures.enough; means = c.in_ok-ciphers.ensures.meaning }))
+    c.in_ok-replies.ensures
 
 pub returns-clause-row : goal.returns-clause-row
 returns-clause-row g c =
-    let cs = c.in_ok-ciphers.ciphers.items in
-    let h : IsExpansion c.args.keys.now c.args.query.now c.args.rows.now.rows cs =
-    subst (λ (k : ℕ). IsExpansion c.args.keys.now c.args.query.now k cs) c.rows.ensures
-    (record { items = c.in_ok-ciphers.ensures.value; enough = c.in_ok-ciphers.ensures.enough; means = c.in_ok-ciphers.ensures.meaning }) in
-    row_means c.args.keys.now c.args.query.now c.args.rows.now cs c.in_ok-replies.replies.items c.degree-degree.ensures.table c.degree-n.ensures.ciphertext c.requires.one_degree h
-    (c.in_ok-replies.ensures ∙ ap (λ (xs : List Ciphertext). table_reply c.args.rows.now xs) c.deref.ensures.value)
+    row_means c.args.keys.now c.args.query.now c.args.rows.now c.deref.result.now c.in_ok-replies.replies.items c.degree-degree.ensures.table c.degree-n.ensures.ciphertext c.requires.one_degree
+    (expansion_as c.args.keys.now c.args.query.now c.rows.result c.args.rows.now.rows c.in_ok-ciphers.ciphers.items c.deref.result.now c.rows.ensures c.deref.ensures.value
+    (record { items = c.in_ok-ciphers.ensures.value; enough = c.in_ok-ciphers.ensures.enough; means = c.in_ok-ciphers.ensures.meaning }))
+    c.in_ok-replies.ensures
