@@ -1,0 +1,9 @@
+pub mod Levels
+pub mod Messages
+pub mod Sums
+pub mod Expansions
+pub mod Tables
+pub mod Replies
+pub mod Meanings
+pub mod Openings
+pub mod Steps

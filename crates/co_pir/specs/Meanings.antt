@@ -1,0 +1,29 @@
+-- What the ciphertexts of a retrieval mean.
+use Rattle.std.specs.Prelude.{ℕ, ℤ, ◌+◌, ◌-◌, ◌*◌, ◌^◌, ◌<◌, ◌≡◌, List, length}
+use Rattle.co_math.specs.Polynomials.{IsWrapped}
+use Rattle.co_math.specs.Bounds.{fresh_bound, switch_bound}
+use Rattle.co_math.specs.Coefficients.{coefficients, AreBelow}
+use Rattle.co_ring.specs.Polynomials.{polynomial_of}
+use Rattle.co_noise.specs.Shapes.{log2_up}
+use Rattle.co_bfv.specs.Ciphertexts.{Ciphertext, ciphertext_degree, MeansWithin}
+use Rattle.co_switch.specs.Keys.{Keys, AreGoodKeys}
+use Rattle.co_pir.specs.Messages.{query_polynomial}
+use Rattle.co_pir.specs.Replies.{ciphertext_at}
+use Rattle.co_pir.specs.Tables.{payload, piece}
+
+-- under the secret s, for which the keys are good, the query is a fresh one for a row of so many rows
+pub record AsksRow (s : ℤ → ℤ) (keys : Keys) (query : Ciphertext) (rows row : ℕ) : Type 0 where
+  pub secret : IsWrapped (ciphertext_degree query) s
+  pub good : AreGoodKeys s keys
+  pub within : row < rows
+  pub asks : MeansWithin s query (polynomial_of (query_polynomial (ciphertext_degree query) rows row)) fresh_bound
+
+-- the noise of an expanded query: each of l levels doubles it and adds that of a key switch
+abbrev pub expansion_bound : ℕ → ℕ → ℕ
+expansion_bound degree rows = 2 ^ log2_up rows * fresh_bound + (2 ^ log2_up rows - 1) * switch_bound degree
+
+-- the ciphertexts mean the payload polynomials of these bytes, piece by piece, within b
+pub record MeansBytes (n : ℕ) (s : ℤ → ℤ) (cs : List Ciphertext) (bytes : List ℕ) (b : ℕ) : Type 0 where
+  pub len : length bytes ≡ length cs * (2 * n)
+  pub below : AreBelow 256 bytes
+  pub means : (c : ℕ) → c < length cs → MeansWithin s (ciphertext_at cs c) (coefficients (payload n (piece (2 * n) c bytes))) b
