@@ -1,0 +1,14 @@
+pub mod FileFormat
+pub mod RowCounts
+pub mod BinSizes
+pub mod PlaceLemmas
+pub mod FilledBins
+pub mod TermSizes
+pub mod VocabularyTerms
+pub mod WeightEntries
+pub mod SettingRanges
+pub mod Greatest
+pub mod Made
+pub mod ShapeLemmas
+pub mod OneLibrary
+pub mod OneAnswer
