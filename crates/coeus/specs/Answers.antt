@@ -1,5 +1,5 @@
 -- What each command prints, and when it refuses.
-use Rattle.std.specs.Prelude.{◌≡◌, ◌⊎◌, ◌<◌, ◌≤◌, ◌++◌, [], ◌∷◌, ℕ, min, List, length, codes, decimal, Option, Some, None, Result, Ok, Err, IsOk, IsSome}
+use Rattle.std.specs.Prelude.{◌≡◌, ◌≢◌, ◌⊎◌, ◌<◌, ◌≤◌, ◌++◌, [], ◌∷◌, ℕ, min, List, length, codes, decimal, Option, Some, None, Result, Ok, Err, IsOk, IsSome}
 use Rattle.co_link.specs.Causes.{Rose}
 use Rattle.co_link.specs.Files.{Folder, FileCall, file_at, IsLonger}
 use Rattle.co_link.specs.declared.files.FileKind.TheVariants.{Read, Write}
@@ -18,7 +18,7 @@ use Rattle.co_noise.specs.declared.testing.TestFault.TheVariants.{RowsOverDegree
 use Rattle.co_library.specs.Libraries.{Parts}
 use Rattle.co_library.specs.Files.{library_bytes}
 use Rattle.co_library.specs.Settings.{wrong_setting}
-use Rattle.co_library.specs.Publishing.{IsPublished, IsRefused}
+use Rattle.co_library.specs.Refusals.{IsPublished, IsRefused}
 use Rattle.co_library.specs.declared.settings.Settings.{Settings}
 use Rattle.co_library.specs.declared.settings.SettingName.{SettingName}
 use Rattle.co_library.specs.declared.publishing.PublishFault.{PublishFault}
@@ -163,11 +163,12 @@ ImportCause i run (Keywords number) = ⊥
 ImportCause i run Words = ⊥
 ImportCause i run (Test fault) = ⊥
 
--- a refusal with a status from 2 to 8 changes no file
+-- a refusal changes no file, but for one of the write, of the output or for want of memory, which may come after the write
 abbrev pub ChangesNothing : Option Folder → Option Folder → Refusal → Type 0
+ChangesNothing held now (File Write) = Unit {0}
 ChangesNothing held now Output = Unit {0}
-ChangesNothing held now (File kind) = Unit {0}
 ChangesNothing held now Memory = Unit {0}
+ChangesNothing held now (File Read) = now ≡ held
 ChangesNothing held now (Corpus fault) = now ≡ held
 ChangesNothing held now CorpusTooLong = now ≡ held
 ChangesNothing held now (Publish fault) = now ≡ held
@@ -175,8 +176,8 @@ ChangesNothing held now (Test fault) = now ≡ held
 ChangesNothing held now (Keywords number) = now ≡ held
 ChangesNothing held now Words = now ≡ held
 
--- an import that nothing hinders: the file is told, within the limit and a corpus, settings, sizes and test are good, and no
--- count of faults rose
+-- an import that nothing hinders: the file is told, within the limit and a corpus, that is published with the settings, so
+-- that settings, sizes and test are good, and no count of faults rose
 pub record IsImportUnhindered (i : ImportWords) (run : Run) : Type 0 where
   pub told : IsSome run.held
   pub bytes : List ℕ
@@ -184,7 +185,8 @@ pub record IsImportUnhindered (i : ImportWords) (run : Run) : Type 0 where
   pub fits : length bytes ≤ 268435456
   pub documents : List Document
   pub read : corpus_of bytes ≡ Ok documents
-  pub good : (fault : PublishFault) → fault ≢ publishing.OutOfMemory → IsRefused documents i.settings fault → ⊥
+  pub library : Parts
+  pub published : IsPublished documents i.settings library
   pub files_kept : ¬ Rose run.files_before run.files_now
   pub out_kept : ¬ Rose run.out_before run.out_now
 
@@ -280,6 +282,7 @@ pub record Refused (command : Option Spoken) (words : List (List ℕ)) (run : Ru
   pub status_is : status ≡ status_of refusal
   pub cause : Cause command run refusal
   pub leaves : Leaves command run.held outputs.held_now outputs.out_was outputs.out_is refusal
+  pub unchanged : ChangesNothing run.held outputs.held_now refusal
   pub says : Says words refusal outputs.err_before outputs.err_now outputs.err_was outputs.err_is
 
 -- the program answered: the output took the whole text of the answer, and the error output nothing

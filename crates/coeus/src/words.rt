@@ -50,7 +50,7 @@ pub fn read_plain(words: &[String]) -> Option<PlainCommand<'_>>
 
 // The settings among options, where no pick and no query was given.
 fn settings_of(rest: OptionsAndQuery<'_>) -> Option<Settings>
-    ensures { result ≡ settings_of (rest_shown rest) }
+    ensures { result ≡ settings_of (rest_shown rest.entry) }
 {
     if rest.options.pick.is_some() {
         return None;
