@@ -7,8 +7,12 @@ use Rattle.co_corpus.specs.declared.reading.CorpusFault.{CorpusFault}
 use Rattle.co_corpus.specs.declared.reading.CorpusFault.TheVariants.{Empty, BadJson, NotObject, NoText, TitleNotText, TextTooLong, TooMany, OutOfMemory}
 use Rattle.co_noise.specs.declared.testing.TestFault.{TestFault}
 use Rattle.co_noise.specs.declared.testing.TestFault.TheVariants.{RowsOverDegree, Score, Records, Bins}
+use Rattle.co_library.specs.declared.settings.SettingName.{SettingName}
+use Rattle.co_library.specs.declared.settings.SettingName.TheVariants.{Degree, Terms, Hits, Chunks}
+use Rattle.co_library.specs.declared.publishing.PublishFault.{PublishFault}
+use Rattle.co_library.specs.declared.publishing.PublishFault.TheVariants as publishing
 use Rattle.coeus.specs.declared.refusals.Refusal.{Refusal}
-use Rattle.coeus.specs.declared.refusals.Refusal.TheVariants.{Words, Corpus, CorpusTooLong, Test, Keywords, File, Output, Memory}
+use Rattle.coeus.specs.declared.refusals.Refusal.TheVariants.{Words, Corpus, CorpusTooLong, Publish, Test, Keywords, File, Output, Memory}
 
 abbrev pub status_of_corpus : CorpusFault → ℕ
 status_of_corpus OutOfMemory = 10
@@ -20,10 +24,18 @@ status_of_corpus (TitleNotText line) = 3
 status_of_corpus (TextTooLong line) = 3
 status_of_corpus (TooMany line) = 3
 
+abbrev pub status_of_publishing : PublishFault → ℕ
+status_of_publishing (publishing.Setting which) = 3
+status_of_publishing (publishing.TooManyWeights entries) = 3
+status_of_publishing (publishing.TooBig bytes) = 3
+status_of_publishing (publishing.Test fault) = 4
+status_of_publishing publishing.OutOfMemory = 10
+
 abbrev pub status_of : Refusal → ℕ
 status_of Words = 2
 status_of (Corpus fault) = status_of_corpus fault
 status_of CorpusTooLong = 3
+status_of (Publish fault) = status_of_publishing fault
 status_of (Test fault) = 4
 status_of (Keywords found) = 5
 status_of (File kind) = 9
@@ -58,11 +70,25 @@ test_text (Score bound) = bound_text (codes "score") bound
 test_text (Records bound) = bound_text (codes "records") bound
 test_text (Bins bound) = bound_text (codes "bins") bound
 
+abbrev pub setting_text : SettingName → List ℕ
+setting_text Degree = codes "setting degree out of range" ++ (10 ∷ [])
+setting_text Terms = codes "setting terms out of range" ++ (10 ∷ [])
+setting_text Hits = codes "setting hits out of range" ++ (10 ∷ [])
+setting_text Chunks = codes "setting chunks out of range" ++ (10 ∷ [])
+
+abbrev pub publishing_text : PublishFault → List ℕ
+publishing_text (publishing.Setting which) = setting_text which
+publishing_text (publishing.TooManyWeights entries) = codes "too many weights " ++ (decimal entries ++ (10 ∷ []))
+publishing_text (publishing.TooBig bytes) = codes "bins of " ++ (decimal bytes ++ (codes " bytes" ++ (10 ∷ [])))
+publishing_text (publishing.Test fault) = test_text fault
+publishing_text publishing.OutOfMemory = codes "memory" ++ (10 ∷ [])
+
 -- what a refusal says after `coeus: `, with the line feed
 abbrev pub text_of : List (List ℕ) → Refusal → List ℕ
 text_of words Words = codes "wrong words" ++ (10 ∷ [])
 text_of words (Corpus fault) = corpus_text fault
 text_of words CorpusTooLong = codes "corpus too long" ++ (10 ∷ [])
+text_of words (Publish fault) = publishing_text fault
 text_of words (Test fault) = test_text fault
 text_of words (Keywords found) = decimal found ++ (codes " keywords, at most 16" ++ (10 ∷ []))
 text_of words (File kind) = codes "file " ++ (name_of kind words ++ (10 ∷ []))

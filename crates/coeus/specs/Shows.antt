@@ -7,7 +7,7 @@ use Rattle.co_noise.specs.declared.testing.TestFault.{TestFault}
 use Rattle.coeus.specs.Refusals.{TookWhole, TookPrefix, line_of}
 use Rattle.coeus.specs.Answers.{shape_text}
 use Rattle.coeus.specs.declared.refusals.Refusal.{Refusal}
-use Rattle.coeus.specs.declared.refusals.Refusal.TheVariants.{Words, Corpus, CorpusTooLong, Test, Keywords, File, Output, Memory}
+use Rattle.coeus.specs.declared.refusals.Refusal.TheVariants.{Words, Corpus, CorpusTooLong, Publish, Test, Keywords, File, Output, Memory}
 
 -- no line where the shape passes the test, else the line of the comparison that fails
 abbrev pub SaysFault : {Y : Type 0} → List (List ℕ) → Numbers → Option (String Y) → Type 0
@@ -22,6 +22,7 @@ Shows words s was is before now (Err Memory) = is ≡ was
 Shows words s was is before now (Err Words) = ⊥
 Shows words s was is before now (Err (Corpus fault)) = ⊥
 Shows words s was is before now (Err CorpusTooLong) = ⊥
+Shows words s was is before now (Err (Publish fault)) = ⊥
 Shows words s was is before now (Err (Test fault)) = ⊥
 Shows words s was is before now (Err (Keywords number)) = ⊥
 Shows words s was is before now (Err (File kind)) = ⊥

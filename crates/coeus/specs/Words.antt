@@ -6,6 +6,7 @@ use Rattle.std.specs.Str.{bytes_eq}
 use Rattle.std.specs.Char.{is_ascii_digit}
 use Rattle.std.specs.Str.Parse.{digits_value}
 use Rattle.co_noise.specs.Shapes.{Numbers, numbers, shape_of, is_within}
+use Rattle.co_library.specs.declared.settings.Settings.{Settings}
 use Rattle.coeus.specs.declared.options.Options.{Options}
 
 -- one to ten decimal digits
@@ -56,23 +57,32 @@ rest_of o (w ∷ v ∷ ws) = if bytes_eq w (codes "--") then Some (record { opti
 -- what `plain CORPUS` is to do
 pub record PlainWords : Type 0 where
   pub corpus : List ℕ
+  pub terms : ℕ
+  pub hits : ℕ
   pub pick : ℕ
   pub query : List (List ℕ)
+
+-- what `import CORPUS LIBRARY` is to do
+pub record ImportWords : Type 0 where
+  pub corpus : List ℕ
+  pub library : List ℕ
+  pub settings : Settings
 
 -- a command with its words; a shape is the published numbers that its four words stand for
 pub data Spoken : Type 0 where
   SpokenPlain : PlainWords → Spoken
+  SpokenImport : ImportWords → Spoken
   SpokenShape : Numbers → Spoken
 
--- the pick, 1 to 64, or else 1, where no other option was given
-abbrev pub pick_alone : Options → Option ℕ
-pick_alone o =
-    if is_none o.degree && is_none o.terms && is_none o.hits && is_none o.salt && is_none o.chunks && is_within 1 64 (unwrap_or o.pick 1)
-    then Some (unwrap_or o.pick 1) else None
+-- the pick, 1 to 64, or else 1, where no option was given that is for publishing alone
+abbrev pub pick_of : Options → Option ℕ
+pick_of o = if is_none o.degree && is_none o.salt && is_none o.chunks && is_within 1 64 (unwrap_or o.pick 1) then Some (unwrap_or o.pick 1) else None
 
--- `plain` has a query, and at most the option `--pick`
+-- `plain` has a query, and the options `--terms`, `--hits` and `--pick`, which are else 16384, 16 and 1
 abbrev pub plain_of : List ℕ → Rest → Option PlainWords
-plain_of corpus rest = option_and_then (λ query. option_map (λ pick. record { corpus = corpus; pick = pick; query = query }) (pick_alone rest.options)) rest.query
+plain_of corpus rest = option_and_then (λ query. option_map (λ pick.
+    record { corpus = corpus; terms = unwrap_or rest.options.terms 16384; hits = unwrap_or rest.options.hits 16; pick = pick; query = query })
+    (pick_of rest.options)) rest.query
 
 -- `plain CORPUS`, options, `--` and a query
 abbrev pub plain_words : List (List ℕ) → Option PlainWords
@@ -80,6 +90,31 @@ plain_words [] = None
 plain_words (command ∷ []) = None
 plain_words (command ∷ corpus ∷ rest) =
     if bytes_eq command (codes "plain") && not (begins_with_dash corpus) then option_and_then (plain_of corpus) (rest_of no_options rest) else None
+
+-- the settings, where no pick and no query was given
+abbrev pub settings_of : Rest → Option Settings
+settings_of rest =
+    if is_none rest.options.pick && is_none rest.query
+    then Some (record {
+      degree = unwrap_or rest.options.degree 4096;
+      terms = unwrap_or rest.options.terms 16384;
+      hits = unwrap_or rest.options.hits 16;
+      salt = unwrap_or rest.options.salt 0;
+      chunks = unwrap_or rest.options.chunks 1;
+    })
+    else None
+
+abbrev pub import_of : List ℕ → List ℕ → Rest → Option ImportWords
+import_of corpus library rest = option_map (λ settings. record { corpus = corpus; library = library; settings = settings }) (settings_of rest)
+
+-- `import CORPUS LIBRARY` and options
+abbrev pub import_words : List (List ℕ) → Option ImportWords
+import_words [] = None
+import_words (command ∷ []) = None
+import_words (command ∷ corpus ∷ []) = None
+import_words (command ∷ corpus ∷ library ∷ rest) =
+    if bytes_eq command (codes "import") && not (begins_with_dash corpus) && not (begins_with_dash library)
+    then option_and_then (import_of corpus library) (rest_of no_options rest) else None
 
 -- `shape DEGREE TERMS ROWS BINS`, where each is in its range; the other numbers are the least
 abbrev pub shape_words : List (List ℕ) → Option Numbers
@@ -89,14 +124,15 @@ shape_words (command ∷ degree ∷ terms ∷ rows ∷ bins ∷ []) =
     else None
 shape_words words = None
 
-abbrev pub first_spoken : Option PlainWords → Option Numbers → Option Spoken
-first_spoken (Some p) shape = Some (SpokenPlain p)
-first_spoken None (Some s) = Some (SpokenShape s)
-first_spoken None None = None
+abbrev pub first_spoken : Option PlainWords → Option ImportWords → Option Numbers → Option Spoken
+first_spoken (Some p) publishing shape = Some (SpokenPlain p)
+first_spoken None (Some i) shape = Some (SpokenImport i)
+first_spoken None None (Some s) = Some (SpokenShape s)
+first_spoken None None None = None
 
 -- the command that the words speak, if they are in the grammar
 unfoldable pub spoken : List (List ℕ) → Option Spoken
-spoken words = first_spoken (plain_words words) (shape_words words)
+spoken words = first_spoken (plain_words words) (import_words words) (shape_words words)
 
 -- ---- the query
 

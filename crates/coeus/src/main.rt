@@ -10,6 +10,7 @@
 mod options;
 mod plain;
 mod program;
+mod publish;
 mod refusals;
 mod shape;
 #[cfg(test)]

@@ -3,7 +3,7 @@ ghost use Rattle.std.specs.Prelude.{◌≡◌, ◌≤◌, ◌<◌, ◌^◌, stri
 ghost use Rattle.std.specs.Char.{is_ascii_digit};
 ghost use Rattle.std.specs.List.{list_all};
 ghost use Rattle.std.specs.Str.Parse.{digits_value};
-ghost use Rattle.coeus.specs.Words.{are_digits, number, once, with_option, no_options, rest_of, pick_alone};
+ghost use Rattle.coeus.specs.Words.{are_digits, number, once, with_option, no_options, rest_of, pick_of};
 ghost use Rattle.coeus.specs.Commands.{rest_shown};
 ghost use Rattle.coeus.specs.Next.{next_shown, words_left};
 
@@ -124,17 +124,11 @@ impl Options {
 }
 
 impl Options {
-    /// The pick, 1 to 64, or else 1, where no other option was given.
-    pub fn pick_alone(self) -> Option<u32>
-        ensures { result ≡ pick_alone self }
+    /// The pick, 1 to 64, or else 1, where no option was given that is for publishing alone.
+    pub fn pick(self) -> Option<u32>
+        ensures { result ≡ pick_of self }
     {
         if self.degree.is_some() {
-            return None;
-        }
-        if self.terms.is_some() {
-            return None;
-        }
-        if self.hits.is_some() {
             return None;
         }
         if self.salt.is_some() {

@@ -1,15 +1,16 @@
 // Why the program refuses, with which status, and the line that it puts on the error output.
 ghost use Rattle.std.specs.Prelude.{◌≡◌, ◌++◌, IfOk, map, codes, string_bytes};
 ghost use Rattle.co_link.specs.Causes.{Rose};
-ghost use Rattle.coeus.specs.Refusals.{status_of, status_of_corpus, name_of, line_of, corpus_text, test_text, TookWhole, Told};
+ghost use Rattle.coeus.specs.Refusals.{status_of, status_of_corpus, status_of_publishing, setting_text, publishing_text, name_of, line_of, corpus_text, test_text, TookWhole, Told};
 
 use co_corpus::CorpusFault;
+use co_library::{PublishFault, SettingName};
 use co_link::{FileKind, Sink};
 use co_noise::TestFault;
 use std::alloc::{AllocError, Global};
 use thiserror::Error;
 
-/// Why the program refuses. A fault of the corpus that is want of memory reads as `Memory`.
+/// Why the program refuses. A fault of the corpus or of publishing that is want of memory reads as `Memory`.
 #[derive(Clone, Copy, Debug, PartialEq, Eq, Error)]
 pub enum Refusal {
     #[error("wrong words")]
@@ -18,6 +19,8 @@ pub enum Refusal {
     Corpus(CorpusFault),
     #[error("corpus too long")]
     CorpusTooLong,
+    #[error("{0}")]
+    Publish(PublishFault),
     #[error("test: {0}")]
     Test(TestFault),
     #[error("{0} keywords, at most 16")]
@@ -45,6 +48,18 @@ fn status_of_corpus(fault: CorpusFault) -> u8
     }
 }
 
+fn status_of_publishing(fault: PublishFault) -> u8
+    ensures { result ≡ status_of_publishing fault }
+{
+    match fault {
+        PublishFault::Setting { which: _ } => 3,
+        PublishFault::TooManyWeights { entries: _ } => 3,
+        PublishFault::TooBig { bytes: _ } => 3,
+        PublishFault::Test(_) => 4,
+        PublishFault::OutOfMemory => 10,
+    }
+}
+
 impl Refusal {
     fn status(self) -> u8
         ensures { result ≡ status_of self }
@@ -53,6 +68,7 @@ impl Refusal {
             Refusal::Words => 2,
             Refusal::Corpus(fault) => status_of_corpus(fault),
             Refusal::CorpusTooLong => 3,
+            Refusal::Publish(fault) => status_of_publishing(fault),
             Refusal::Test(_) => 4,
             Refusal::Keywords(_) => 5,
             Refusal::File(_) => 9,
@@ -104,6 +120,33 @@ fn test_line(alloc: Global, fault: TestFault) -> Result<String, AllocError>
     }
 }
 
+// The line of a setting that is out of its range.
+fn setting_line(alloc: Global, which: SettingName) -> Result<String, AllocError>
+    ensures { IfOk result (λ line. string_bytes line ≡ codes "coeus: " ++ setting_text which) }
+{
+    match which {
+        SettingName::Degree => String::from_str(alloc, "coeus: setting degree out of range\n"),
+        SettingName::Terms => String::from_str(alloc, "coeus: setting terms out of range\n"),
+        SettingName::Hits => String::from_str(alloc, "coeus: setting hits out of range\n"),
+        SettingName::Chunks => String::from_str(alloc, "coeus: setting chunks out of range\n"),
+    }
+}
+
+// The line of a corpus that isn't published.
+fn publishing_line(alloc: Global, fault: PublishFault) -> Result<String, AllocError>
+    ensures { IfOk result (λ line. string_bytes line ≡ codes "coeus: " ++ publishing_text fault) }
+{
+    match fault {
+        PublishFault::Setting { which } => setting_line(alloc, which),
+        PublishFault::TooManyWeights { entries } => {
+            format!(in alloc; "coeus: too many weights {entries}\n")
+        }
+        PublishFault::TooBig { bytes } => format!(in alloc; "coeus: bins of {bytes} bytes\n"),
+        PublishFault::Test(fault) => test_line(alloc, fault),
+        PublishFault::OutOfMemory => String::from_str(alloc, "coeus: memory\n"),
+    }
+}
+
 // The word that names a file.
 fn name_of(kind: FileKind, words: &[String]) -> &str
     ensures { result.now ≡ name_of kind (map string_bytes words.now) }
@@ -128,6 +171,7 @@ pub fn line_of(alloc: Global, words: &[String], refusal: Refusal) -> Result<Stri
         Refusal::Words => String::from_str(alloc, "coeus: wrong words\n"),
         Refusal::Corpus(fault) => corpus_line(alloc, fault),
         Refusal::CorpusTooLong => String::from_str(alloc, "coeus: corpus too long\n"),
+        Refusal::Publish(fault) => publishing_line(alloc, fault),
         Refusal::Test(fault) => test_line(alloc, fault),
         Refusal::Keywords(found) => format!(in alloc; "coeus: {found} keywords, at most 16\n"),
         Refusal::File(kind) => {

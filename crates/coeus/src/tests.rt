@@ -8,8 +8,11 @@ use std::thread::Threads;
 const CORPUS: &[u8] =
     b"{\"title\":\"Sea\",\"text\":\"sea wind\"}\n{\"title\":\"Moor\",\"text\":\"moor\"}\n";
 
+// A corpus of one document, whose text is empty.
+const EMPTY_TEXT: &[u8] = b"{\"text\":\"\"}\n";
+
 // Words that are outside the grammar.
-const WRONG: [&str; 10] = [
+const WRONG: [&str; 14] = [
     "plain",
     "plain c",
     "plain c sea",
@@ -18,6 +21,10 @@ const WRONG: [&str; 10] = [
     "plain c --pick 65 -- sea",
     "plain c --pick 1 --pick 1 -- sea",
     "plain c --salt 1 -- sea",
+    "import c",
+    "import c -l",
+    "import c l --pick 1",
+    "import c l -- sea",
     "shape 16 5 1",
     "shape 15 5 1 1",
 ];
@@ -79,7 +86,12 @@ fn first_call(alloc: Global, fails: bool) -> Result<Vec<u64>, AllocError> {
 }
 
 fn files_of(alloc: Global, corpus: &[u8]) -> Result<MemoryFiles, Fail> {
-    let mut files = MemoryFiles::new(alloc, Vec::new(alloc));
+    files_failing(alloc, corpus, Vec::new(alloc))
+}
+
+// Files with a corpus; these calls fail, where the first one puts the corpus.
+fn files_failing(alloc: Global, corpus: &[u8], calls: Vec<u64>) -> Result<MemoryFiles, Fail> {
+    let mut files = MemoryFiles::new(alloc, calls);
     files.write("c", corpus)?;
     Ok(files)
 }
@@ -96,6 +108,7 @@ fn answers_and_refusals(rt: HostRuntime) -> Result<(), Fail> {
         ("plain d -- sea", (false, false), "9 coeus: file d\n"),
         ("plain d -- sea", (false, true), "9 "),
         ("plain c -- sea", (true, false), "9 coeus: output\n"),
+        ("plain c --terms 0 -- sea", (false, false), "3 coeus: setting terms out of range\n"),
         ("shape 16 5 1 2", (true, false), "9 coeus: output\n"),
     ] {
         let mut files = files_of(alloc, CORPUS)?;
@@ -107,6 +120,42 @@ fn answers_and_refusals(rt: HostRuntime) -> Result<(), Fail> {
     let mut files = files_of(alloc, b"17\n")?;
     let found = outcome(&rt, alloc, "plain c -- sea", &mut files, (false, false))?;
     assert_eq!(rt; found.as_str(), "3 coeus: corpus line 1: not an object\n");
+    Ok(())
+}
+
+#[test]
+fn imports(rt: HostRuntime) -> Result<(), Fail> {
+    let alloc = rt.alloc();
+    for (line, fails, want, bytes) in [
+        (
+            "import c l --degree 16",
+            (false, false),
+            "0 documents 1 terms 0 rows 1 bins 1 chunks 1\n",
+            332,
+        ),
+        ("import c l --degree 16", (true, false), "9 coeus: output\n", 332),
+        (
+            "import c l --degree 100",
+            (false, false),
+            "3 coeus: setting degree out of range\n",
+            0,
+        ),
+        ("import d l", (false, false), "9 coeus: file d\n", 0),
+    ] {
+        let mut files = files_of(alloc, EMPTY_TEXT)?;
+        let found = outcome(&rt, alloc, line, &mut files, fails)?;
+        assert_eq!(rt; found.as_str(), want);
+        let length = match files.read("l", 1000) {
+            Ok(bytes) => bytes.as_slice().len(),
+            Err(_) => 0,
+        };
+        assert_eq!(rt; length, bytes);
+    }
+    let mut calls = Vec::new(alloc);
+    calls.push(2)?;
+    let mut files = files_failing(alloc, EMPTY_TEXT, calls)?;
+    let found = outcome(&rt, alloc, "import c l", &mut files, (false, false))?;
+    assert_eq!(rt; found.as_str(), "9 coeus: file l\n");
     Ok(())
 }
 

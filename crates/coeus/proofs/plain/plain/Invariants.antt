@@ -1,4 +1,4 @@
 use Rattle.coeus.proofs.plain.plain.Given as goal
 
-abbrev pub ghost-plain_search : goal.ghost-plain_search
-ghost-plain_search g a = 16384
+abbrev pub ghost-search : goal.ghost-search
+ghost-search g a = a.terms
