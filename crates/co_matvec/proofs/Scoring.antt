@@ -5,9 +5,9 @@ use Rattle.std.proofs.Math.Nat.{mul-le-mul_right}
 use Rattle.co_math.specs.Coefficients.{IsDegree}
 use Rattle.co_bfv.specs.Ciphertexts.{Ciphertext, IsCiphertext, ciphertext_degree, zero_ciphertext}
 use Rattle.co_switch.specs.Keys.{Keys, IsKey, AreKeys, keys_degree}
-use Rattle.co_switch.specs.Steps.{raised}
-use Rattle.co_rot.specs.Rotations.{no_ciphertext, HasRisen}
-use Rattle.co_rot.proofs.Growing.{raised-none, raised-up, raised-le, raised-more, risen}
+use Rattle.co_switch.specs.Steps.{raised, HasRisen}
+use Rattle.co_switch.proofs.Rising.{raised-zero, raised-raised, risen, risen_more}
+use Rattle.co_rot.specs.Rotations.{no_ciphertext}
 use Rattle.co_rot.proofs.Rotated.{AreRotationKeys}
 use Rattle.co_rot.proofs.Keyed.{rotation_keys_are}
 use Rattle.co_matvec.specs.Weights.{WeightMatrix, keyword_blocks, document_blocks}
@@ -27,7 +27,7 @@ pub none_scored : (w : WeightMatrix) (keys : Keys) (query replies : List Ciphert
 none_scored w keys query replies before len zeros = record {
   sums = record { each = λ a d l. no_blocks w keys query a (get_or replies a d) (zeros a d l) };
   count = len;
-  steps = sym (ap (raised before) (nothing (w.degree / 2 - 1)) ∙ raised-none before);
+  steps = sym (ap (raised before) (nothing (w.degree / 2 - 1)) ∙ raised-zero before);
 }
   where
     nothing : (x : ℕ) → 0 * x ≡ 0
@@ -38,7 +38,7 @@ pub one_scored : (w : WeightMatrix) (keys : Keys) (query replies after : List Ci
 one_scored w keys query replies after blocks before now later h len sums e = record {
   sums = sums;
   count = len ∙ h.count;
-  steps = e ∙ ap (λ x. raised x (w.degree / 2 - 1)) h.steps ∙ raised-more before (blocks * (w.degree / 2 - 1)) (w.degree / 2 - 1) ∙ ap (raised before) (more blocks (w.degree / 2 - 1));
+  steps = e ∙ ap (λ x. raised x (w.degree / 2 - 1)) h.steps ∙ raised-raised before (blocks * (w.degree / 2 - 1)) (w.degree / 2 - 1) ∙ ap (raised before) (more blocks (w.degree / 2 - 1));
 }
   where
     more : (k x : ℕ) → k * x + x ≡ (k + 1) * x
@@ -48,22 +48,11 @@ one_scored w keys query replies after blocks before now later h len sums e = rec
 pub cut_short : (w : WeightMatrix) (keys : Keys) (query replies : List Ciphertext) (blocks all before now later : ℕ) → AreScored w keys query blocks replies before now → blocks < all → HasRisen now (w.degree / 2 - 1) later
     → HasRisen before (all * (w.degree / 2 - 1)) later
 cut_short w keys query replies blocks all before now later h l r =
-    let most = raised-more before (blocks * (w.degree / 2 - 1)) (w.degree / 2 - 1) in
-    let up = raised-up before (blocks * (w.degree / 2 - 1)) in
-    let fits = raised-le before (blocks * (w.degree / 2 - 1) + (w.degree / 2 - 1)) (all * (w.degree / 2 - 1)) (room blocks all (w.degree / 2 - 1) l) in
-    record {
-      at_least = low before now later (raised before (blocks * (w.degree / 2 - 1))) h.steps up r.at_least;
-      at_most = high later (raised now (w.degree / 2 - 1)) _ _ r.at_most (ap (λ x. raised x (w.degree / 2 - 1)) h.steps ∙ most) fits;
-    }
+    risen_more before (blocks * (w.degree / 2 - 1)) (w.degree / 2 - 1) (all * (w.degree / 2 - 1)) later
+    (subst (λ (x : ℕ). HasRisen x (w.degree / 2 - 1) later) h.steps r) (room blocks all (w.degree / 2 - 1) l)
   where
     room : (k m x : ℕ) → k < m → k * x + x ≤ m * x
     room k m x l = let more : k + 1 ≤ m = omega arith in omega (arith, mul-le-mul_right x more)
-
-    low : (a b c d : ℕ) → b ≡ d → a ≤ d → b ≤ c → a ≤ c
-    low a b c d e l u = omega arith
-
-    high : (a b c d : ℕ) → a ≤ b → b ≡ c → c ≤ d → a ≤ d
-    high a b c d l e u = omega arith
 
 module _ (w : WeightMatrix) (keys : Keys) (query replies : List Ciphertext) (blocks before now : ℕ) (h : AreScored w keys query blocks replies before now) (end : blocks ≡ keyword_blocks w) where
   pub all_scored : AreScoreReplies w keys query replies

@@ -3,8 +3,7 @@
 ghost use Rattle.std.specs.Prelude.{◌≡◌, ◌+◌, ◌-◌, ◌*◌, ◌/◌, ◌<◌, ◌≤◌, length, All, IfOk, OnOk};
 ghost use Rattle.co_bfv.specs.Ciphertexts.{IsCiphertext, ciphertext_degree, zero_ciphertext};
 ghost use Rattle.co_switch.specs.Keys.{AreKeys, IsKey, keys_degree};
-ghost use Rattle.co_switch.specs.Steps.{raised};
-ghost use Rattle.co_rot.specs.Rotations.{HasRisen};
+ghost use Rattle.co_switch.specs.Steps.{raised, HasRisen};
 ghost use Rattle.co_matvec.specs.Weights.{keyword_blocks, document_blocks};
 ghost use Rattle.co_matvec.specs.Replies.{AreScoreReplies, AreOnlyScoreReplies, MeanScores, ShowScores};
 ghost use Rattle.co_matvec.specs.Sums.{AddsDiagonal, AddsDiagonals, AreSums};

@@ -5,34 +5,16 @@ use Rattle.std.proofs.lemmas.Nat.{pow_pos}
 use Rattle.std.proofs.lemmas.List.FromFn.{map-range_with_len_more, length-map-range_with_len, get_or-map-range_with_len}
 use Rattle.co_bfv.specs.Ciphertexts.{Ciphertext, IsCiphertext, ciphertext_degree}
 use Rattle.co_switch.specs.Keys.{Keys, IsKey, AreKeys, keys_degree, rotation_key, no_key}
-use Rattle.co_switch.specs.Steps.{raised}
+use Rattle.co_switch.specs.Steps.{raised, HasRisen}
+use Rattle.co_switch.proofs.Rising.{raised-zero, raised-raised, risen}
 use Rattle.co_switch.specs.Switches.{switched}
 use Rattle.co_rot.specs.Bits.{lowest_bit, parent_of, set_bits}
 use Rattle.co_math.specs.Bounds.{switch_bound}
 use Rattle.std.proofs.lemmas.Option.{get_or_from_slice_get, slice_get_within}
-use Rattle.co_rot.specs.Rotations.{rotation, rotations, no_ciphertext, HasRisen, MeanTurned, MeansTurned}
+use Rattle.co_rot.specs.Rotations.{rotation, rotations, no_ciphertext, MeanTurned, MeansTurned}
 use Rattle.co_rot.proofs.Keyed.{rotation_keys_are}
 use Rattle.co_rot.proofs.Turning.{fits_word, rotation-step, rotation-zero, parent-lt}
 use Rattle.co_rot.proofs.Rotated.{AreRotationKeys, rotation-degree, rotation-means}
-
-pub raised-none : (n : ℕ) → raised n 0 ≡ n
-unfolding raised
-raised-none n = omega arith
-
-pub raised-up : (n a : ℕ) → n ≤ raised n a
-unfolding raised
-raised-up n a = omega arith
-
-pub raised-le : (n a b : ℕ) → a ≤ b → raised n a ≤ raised n b
-unfolding raised
-raised-le n a b k = omega arith
-
-pub raised-more : (n a b : ℕ) → raised (raised n a) b ≡ raised n (a + b)
-unfolding raised
-raised-more n a b = omega arith
-
-pub risen : (before most now by : ℕ) → now ≡ raised before by → by ≤ most → HasRisen before most now
-risen before most now by e l = record { at_least = omega (arith, e, raised-up before by); at_most = omega (arith, e, raised-le before by most l) }
 
 -- the first i rotations, made in i - 1 steps
 pub record AreTurned (keys : Keys) (query : Ciphertext) (i : ℕ) (all : List Ciphertext) (before now : ℕ) : Type 0 where
@@ -40,7 +22,7 @@ pub record AreTurned (keys : Keys) (query : Ciphertext) (i : ℕ) (all : List Ci
   pub steps : now ≡ raised before (i - 1)
 
 pub one_turned : (keys : Keys) (query : Ciphertext) (before : ℕ) → AreTurned keys query 1 (query ∷ []) before before
-one_turned keys query before = record { items = ap (λ c. c ∷ []) (sym (rotation-zero keys query)); steps = sym (raised-none before) }
+one_turned keys query before = record { items = ap (λ c. c ∷ []) (sym (rotation-zero keys query)); steps = sym (raised-zero before) }
 
 module _ (keys : Keys) (query : Ciphertext) (n bits : ℕ) (k : AreRotationKeys n bits keys) (ok : IsCiphertext query) (one : ciphertext_degree query ≡ n)
     (i : ℕ) (all : List Ciphertext) (before now : ℕ) (h : AreTurned keys query i all before now) where
@@ -60,7 +42,7 @@ module _ (keys : Keys) (query : Ciphertext) (n bits : ℕ) (k : AreRotationKeys 
     items =
         (λ t. h.items t ++ (e ∙ ap (switched (rotation_key keys (lowest_bit i))) (turned-read (parent_of i) no_ciphertext (parent-lt i z small)) ∙ sym (rotation-step bits k.few keys query i k.count z w)) t ∷ [])
         ∙ sym (map-range_with_len_more (rotation keys query) 0 i i (omega arith));
-    steps = f ∙ ap (λ m. raised m 1) h.steps ∙ raised-more before (i - 1) 1 ∙ ap (raised before) (omega arith);
+    steps = f ∙ ap (λ m. raised m 1) h.steps ∙ raised-raised before (i - 1) 1 ∙ ap (raised before) (omega arith);
   }
     where
       small : i < 2 ^ 32
@@ -101,7 +83,7 @@ module _ (keys : Keys) (query : Ciphertext) (a : AreKeys keys) (each : All IsKey
 
   pub set_risen_more : (after : ℕ) → 0 < i → i < 2 ^ length keys.rotations → after ≡ raised now 1 → HasRisen before (keys_degree keys / 2 - 1) after
   set_risen_more after z w e =
-      risen before (keys_degree keys / 2 - 1) after (i - 1 + 1) (e ∙ ap (λ m. raised m 1) h.steps ∙ raised-more before (i - 1) 1)
+      risen before (keys_degree keys / 2 - 1) after (i - 1 + 1) (e ∙ ap (λ m. raised m 1) h.steps ∙ raised-raised before (i - 1) 1)
       (subst (λ (x : ℕ). i - 1 + 1 ≤ x - 1) (sym (half_degree keys)) (fewer i (2 ^ length keys.rotations) z w))
     where
       fewer : (i x : ℕ) → 0 < i → i < x → i - 1 + 1 ≤ x - 1
@@ -124,9 +106,6 @@ module _ (keys : Keys) (query : Ciphertext) (a : AreKeys keys) (each : All IsKey
 
     pub all_steps : now ≡ raised before (keys_degree keys / 2 - 1)
     all_steps = h.steps ∙ ap (λ x. raised before (x - 1)) (end ∙ sym (half_degree keys))
-
-pub none_risen : (before most : ℕ) → HasRisen before most before
-none_risen before most = risen before most before 0 (sym (raised-none before)) (omega arith)
 
 pub length_of_turned : (keys : Keys) (query : Ciphertext) (i : ℕ) (all : List Ciphertext) (before now : ℕ) → AreTurned keys query i all before now → length all ≡ i
 length_of_turned keys query i all before now h = ap length h.items ∙ length-map-range_with_len (rotation keys query) 0 i

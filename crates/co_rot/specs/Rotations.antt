@@ -39,8 +39,3 @@ MeanTurned keys query all =
     (s m : ℤ → ℤ) (bound : ℕ) → IsWrapped (keys_degree keys) s → IsWrapped (keys_degree keys) m → All (IsGoodKey s) keys.rotations → MeansWithin s query m bound
     → (i : ℕ) (r : Ciphertext) → slice_get all i ≡ Some r
     → MeansTurned (keys_degree keys) s r i m (bound + set_bits (length keys.rotations) i * switch_bound (keys_degree keys))
-
--- a count of steps that rose by at most so much
-pub record HasRisen (before most now : ℕ) : Type 0 where
-  pub at_least : before ≤ now
-  pub at_most : now ≤ raised before most

@@ -3,10 +3,10 @@
 ghost use Rattle.std.specs.Prelude.{◌≡◌, ◌-◌, ◌/◌, ◌≤◌, ◌<◌, ◌^◌, length, All, IfOk, OnOk, OnErr, slice_index_or};
 ghost use Rattle.co_bfv.specs.Ciphertexts.{ciphertext_degree};
 ghost use Rattle.co_switch.specs.Keys.{AreKeys, IsKey, keys_degree, rotation_key};
-ghost use Rattle.co_switch.specs.Steps.{raised};
+ghost use Rattle.co_switch.specs.Steps.{raised, HasRisen};
 ghost use Rattle.co_switch.specs.Switches.{switched};
 ghost use Rattle.co_rot.specs.Bits.{lowest_bit as lowest_bit_of, parent_of};
-ghost use Rattle.co_rot.specs.Rotations.{rotations, no_ciphertext, HasRisen, MeanTurned};
+ghost use Rattle.co_rot.specs.Rotations.{rotations, no_ciphertext, MeanTurned};
 
 use crate::parents::{lowest_bit, parent};
 use co_bfv::Cipher;

@@ -1,7 +1,7 @@
 -- One keyword block after another.
 use Rattle.std.proofs.Common.{◌≡◌, ℕ, ◌∙◌, ◌+◌, ◌*◌, ◌-◌, ◌/◌, ◌<◌, sym, ap, subst, arith, List, length}
 use Rattle.co_bfv.specs.Ciphertexts.{Ciphertext}
-use Rattle.co_rot.proofs.Growing.{none_risen}
+use Rattle.co_switch.proofs.Rising.{risen_none}
 use Rattle.co_matvec.specs.Weights.{keyword_blocks}
 use Rattle.co_matvec.proofs.Filling.{whole_kept}
 use Rattle.co_matvec.proofs.Only.{replies_only}
@@ -9,7 +9,7 @@ use Rattle.co_matvec.proofs.Scoring.{AreScored, none_scored, one_scored, cut_sho
 use Rattle.co_matvec.proofs.scores.score.Goals as goal
 
 pub returns-in_err-replies-clause-rise : goal.returns-in_err-replies-clause-rise
-returns-in_err-replies-clause-rise g c = none_risen c.args.steps.now (keyword_blocks c.args.weights.now * (c.args.weights.now.degree / 2 - 1))
+returns-in_err-replies-clause-rise g c = risen_none c.args.steps.now (keyword_blocks c.args.weights.now * (c.args.weights.now.degree / 2 - 1))
 
 pub loop-k-init : goal.loop-k-init
 loop-k-init g c = none_scored c.args.weights.now c.args.keys.now c.args.query.now c.in_ok-replies.replies.items c.args.steps.now c.in_ok-replies.ensures.count c.in_ok-replies.ensures.zeros

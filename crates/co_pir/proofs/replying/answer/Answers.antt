@@ -1,8 +1,7 @@
 use Rattle.std.proofs.Common.{◌≡◌, ◌-◌, ◌^◌, ◌∙◌, ℕ, rules, arith, sym, ap, subst, length}
 use Rattle.co_noise.specs.Shapes.{log2_up}
-use Rattle.co_pir.specs.Steps.{IsRaisedAtMost}
-use Rattle.co_switch.specs.Steps.{raised}
-use Rattle.co_pir.proofs.Rising.{raised_less}
+use Rattle.co_switch.specs.Steps.{raised, HasRisen}
+use Rattle.co_switch.proofs.Rising.{risen}
 use Rattle.co_pir.proofs.Gathering.{expansion_as, reply_means, row_means, length-table_reply, table_reply-degrees}
 use Rattle.co_pir.proofs.replying.answer.Goals as goal
 
@@ -10,7 +9,7 @@ pub returns-in_err-replies-clause-few_steps : goal.returns-in_err-replies-clause
 returns-in_err-replies-clause-few_steps g c =
     let most = 2 ^ log2_up c.args.rows.now.rows - 1 in
     let e : c.expand.new.steps ≡ raised c.args.steps.now most = c.in_ok-ciphers.ensures.steps ∙ ap (λ k. raised c.args.steps.now (2 ^ log2_up k - 1)) c.rows.ensures in
-    let h : IsRaisedAtMost c.args.steps.now c.expand.new.steps most = subst (λ (x : ℕ). IsRaisedAtMost c.args.steps.now x most) (sym e) (raised_less c.args.steps.now most most (omega arith)) in
+    let h : HasRisen c.args.steps.now most c.expand.new.steps = risen c.args.steps.now most c.expand.new.steps most e (omega arith) in
     search rules
 
 pub returns-clause-count : goal.returns-clause-count

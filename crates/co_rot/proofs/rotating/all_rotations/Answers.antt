@@ -2,17 +2,18 @@
 use Rattle.std.proofs.Common.{◌≡◌, ℕ, ◌-◌, ◌/◌, ◌^◌, ◌≤◌, ◌++◌, ◌∷◌, [], refl, sym, ap, subst, ◌∙◌, arith, List, length}
 use Rattle.co_bfv.specs.Ciphertexts.{Ciphertext}
 use Rattle.co_switch.specs.Keys.{keys_degree}
-use Rattle.co_rot.proofs.Growing.{AreTurned, one_turned, length_of_turned, set_degree, set_more, set_risen, set_risen_more, all_turned, all_mean, all_steps, none_risen, below_half, at_half, one_below}
+use Rattle.co_rot.proofs.Growing.{AreTurned, one_turned, length_of_turned, set_degree, set_more, set_risen, set_risen_more, all_turned, all_mean, all_steps, below_half, at_half, one_below}
+use Rattle.co_switch.proofs.Rising.{risen_none}
 use Rattle.co_rot.proofs.rotating.all_rotations.Goals as goal
 
 same_le : (a b : ℕ) → a ≡ b → a ≤ b
 same_le a b e = omega arith
 
 pub returns-in_err-copy_of-clause-rise : goal.returns-in_err-copy_of-clause-rise
-returns-in_err-copy_of-clause-rise g c = none_risen c.args.steps.now (keys_degree c.args.keys.now / 2 - 1)
+returns-in_err-copy_of-clause-rise g c = risen_none c.args.steps.now (keys_degree c.args.keys.now / 2 - 1)
 
 pub returns-in_err-push-clause-rise : goal.returns-in_err-push-clause-rise
-returns-in_err-push-clause-rise g c = none_risen c.args.steps.now (keys_degree c.args.keys.now / 2 - 1)
+returns-in_err-push-clause-rise g c = risen_none c.args.steps.now (keys_degree c.args.keys.now / 2 - 1)
 
 pub loop-i-init : goal.loop-i-init
 loop-i-init g c =
