@@ -1,13 +1,12 @@
 -- Places of a packing: they lie in the bins and apart, and there are no more bins than documents.
-use Rattle.std.proofs.Common.{◌≡◌, ◌≢◌, ℕ, zero, suc, ◌+◌, ◌-◌, ◌*◌, ◌≤◌, ◌<◌, ◌⊎◌, Bool, true, false, cond, eqb, List, [], ◌∷◌, length, map, take, get_or, refl, sym, ap, subst, ◌∙◌, inl, inr, ⊎_elim, arith}
-use Rattle.std.specs.List.{All, range_with_len}
-use Rattle.std.proofs.lemmas.Bool.{cases_lt, cases_order, eqb-true, eq-eqb}
-use Rattle.std.proofs.lemmas.List.{get_or-map, get_or_default, length-map}
+use Rattle.std.proofs.Common.{◌≡◌, ◌≢◌, ℕ, zero, suc, ◌+◌, ◌*◌, ◌≤◌, ◌<◌, ◌⊎◌, Bool, true, false, cond, eqb, List, [], ◌∷◌, length, map, take, get_or, refl, sym, ap, subst, ◌∙◌, inl, inr, arith}
+use Rattle.std.proofs.lemmas.Bool.{cases_order, eqb-true, eq-eqb}
+use Rattle.std.proofs.lemmas.List.{get_or-map, length-map}
 use Rattle.std.proofs.lemmas.List.Sums.{sum_by-cons}
 use Rattle.std.proofs.Math.Nat.{mul-le-mul_right}
 use Rattle.co_pack.specs.declared.packing.Place.{Place}
-use Rattle.co_pack.specs.Packing.{load, no_place, IsNext, IsFirstFit, IsPacked, IsBinCount}
-use Rattle.co_pack.proofs.Keys.{order_long, order_below, order_has}
+use Rattle.co_pack.specs.Packing.{load, no_place, IsFirstFit, IsPacked}
+use Rattle.co_pack.proofs.Keys.{order_long, order_has}
 use Rattle.co_library.specs.Publishing.{start_of}
 use Rattle.co_library.specs.Packings.{place_at, AreApart}
 

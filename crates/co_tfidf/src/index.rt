@@ -1,5 +1,5 @@
 // The index of a corpus.
-ghost use Rattle.std.specs.Prelude.{◌≡◌, ◌≤◌, ◌<◌, ◌+◌, ◌^◌, ◌++◌, [], ◌∷◌, ℕ, List, All, map, flat_map, length, IfOk, OnOk};
+ghost use Rattle.std.specs.Prelude.{◌≡◌, ◌≤◌, ◌<◌, ◌+◌, ◌^◌, ◌++◌, [], ◌∷◌, ℕ, List, All, map, flat_map, length, IfOk, OnOk, IsUtf8};
 ghost use Rattle.co_tfidf.specs.Tables.{shown};
 ghost use Rattle.co_tfidf.specs.Entries.{posting_entry, table_entries};
 ghost use Rattle.co_tfidf.specs.Found.{IsIndex};
@@ -131,6 +131,7 @@ fn index_of(alloc: Global, kept: Counts, documents: u32) -> Result<Index, AllocE
 pub fn build_index(alloc: Global, corpus: &Corpus, terms: u32) -> Result<Index, AllocError>
     ensures index { IfOk result (λ index. IsIndex terms corpus.now index) }
     ensures vocabulary { IfOk result (λ index. IsVocabulary terms corpus.now index.terms) }
+    ensures text { IfOk result (λ index. All IsUtf8 index.terms) }
 {
     let documents = corpus.as_slice();
     let counts = count_documents(alloc, documents)?;

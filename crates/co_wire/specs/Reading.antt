@@ -1,5 +1,5 @@
 -- Reading from left to right, with the place of the first field that is wrong or not whole.
-use Rattle.std.specs.Prelude.{◌≡◌, ℕ, zero, suc, ◌+◌, List, [], ◌∷◌, length, take, drop, Option, Some, None, Result, Ok, Err, Bool, ◌&&◌, ◌==◌, nat_le, if◌then◌else◌, slice_index, slice_get, ◌-◌, ◌≤◌}
+use Rattle.std.specs.Prelude.{◌≡◌, ℕ, zero, suc, ◌+◌, List, [], ◌∷◌, length, take, drop, Option, Some, Result, Ok, Err, Bool, ◌&&◌, ◌==◌, nat_le, if◌then◌else◌, slice_index, slice_get, ◌-◌, ◌≤◌}
 use Rattle.std.specs.Int.{Width, byte_len, from_be_bytes}
 use Rattle.std.specs.Str.{bytes_eq}
 use Rattle.co_wire.specs.declared.fault.WireFault.{WireFault}

@@ -1,5 +1,5 @@
-use Rattle.std.proofs.Common.{arith, ap, sym, ◌∙◌, Err}
-use Rattle.co_library.specs.Files.{library_in, library_word}
+use Rattle.std.proofs.Common.{ap, sym, ◌∙◌, Err}
+use Rattle.co_library.specs.Files.{library_word}
 use Rattle.co_library.proofs.FileFormat.{whole_ok, whole_err}
 use Rattle.co_library.proofs.reading.read_all.Goals as goal
 

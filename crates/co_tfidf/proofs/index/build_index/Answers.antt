@@ -1,13 +1,15 @@
--- The terms kept are the vocabulary, and their entries are those of the definition.
-use Rattle.std.proofs.Common.{◌≡◌, ◌∙◌, ℕ, List, sym, ap, subst, refl, arith, length, Result, Ok, Err}
-use Rattle.std.specs.Prelude.{map, IfOk}
+-- The terms kept are the vocabulary, their entries are those of the definition, and each is text.
+use Rattle.std.proofs.Common.{◌≡◌, ◌∙◌, ℕ, List, sym, ap, subst, refl, arith, length, [], ◌∷◌, Result, Ok, Err}
+use Rattle.std.specs.Prelude.{map, All, IfOk, IsUtf8, String, string_bytes}
+use Rattle.std.proofs.lemmas.Str.{IsUtf8-string_bytes}
 use Rattle.co_corpus.specs.declared.documents.Document.{Document}
 use Rattle.co_tfidf.specs.declared.index.Index.{Index}
+use Rattle.co_tfidf.specs.declared.postings.Posting.{Posting}
 use Rattle.co_tfidf.specs.Vocabulary.{vocabulary, IsVocabulary}
 use Rattle.co_tfidf.specs.Entries.{table_entries}
 use Rattle.co_tfidf.specs.Found.{IsIndex}
 use Rattle.co_tfidf.specs.Tables.{shown}
-use Rattle.co_tfidf.proofs.Lists.{map-map, map_itself}
+use Rattle.co_tfidf.proofs.Lists.{map-map, map_itself, all_cons, all_none}
 use Rattle.co_tfidf.proofs.VocabularyLaw.{is_vocabulary}
 use Rattle.co_tfidf.proofs.CountedTerms.{counted_terms}
 use Rattle.co_tfidf.proofs.KeptTerms.{kept_terms, tab}
@@ -59,3 +61,15 @@ returns-clause-vocabulary c =
     (if_ok P P (λ index. IsVocabulary most ds index.terms) c.index_of.result
     (λ index ts us. subst (IsVocabulary most ds) (sym (ts ∙ ap (map (λ e. e.0)) table ∙ itself ds (vocabulary most ds))) (is_vocabulary ds most))
     c.index_of.ensures.terms c.index_of.ensures.terms)
+
+text_keys : {Y : Type 0} (es : List (String Y × List Posting)) → All IsUtf8 (map (λ e. e.0) (map shown es))
+text_keys [] = all_none IsUtf8
+text_keys (e ∷ es) = all_cons IsUtf8 (string_bytes e.0) (map (λ e. e.0) (map shown es)) (IsUtf8-string_bytes e.0) (text_keys es)
+
+pub returns-clause-text : goal.returns-clause-text
+returns-clause-text c =
+    let es = c.in_ok-kept.kept.entries in
+    let P : Index → Type 0 = λ index. index.terms ≡ map (λ e. e.0) (map shown es) in
+    if_ok P P (λ index. All IsUtf8 index.terms) c.index_of.result
+    (λ index ts us. subst (λ (ws : List (List ℕ)). All IsUtf8 ws) (sym ts) (text_keys es))
+    c.index_of.ensures.terms c.index_of.ensures.terms
