@@ -11,6 +11,24 @@ const CORPUS: &[u8] =
 // A corpus of one document, whose text is empty.
 const EMPTY_TEXT: &[u8] = b"{\"text\":\"\"}\n";
 
+// Imports of that corpus: the words, whether the output fails, the outcome, and the length of the library.
+const IMPORTS: [(&str, bool, &str, usize); 4] = [
+    (
+        "import c l --degree 16",
+        false,
+        "0 documents 1 terms 0 rows 1 bins 1 chunks 1\n",
+        332,
+    ),
+    ("import c l --degree 16", true, "9 coeus: output\n", 332),
+    (
+        "import c l --degree 100",
+        false,
+        "3 coeus: setting degree out of range\n",
+        0,
+    ),
+    ("import d l", false, "9 coeus: file d\n", 0),
+];
+
 // Words that are outside the grammar.
 const WRONG: [&str; 14] = [
     "plain",
@@ -108,7 +126,11 @@ fn answers_and_refusals(rt: HostRuntime) -> Result<(), Fail> {
         ("plain d -- sea", (false, false), "9 coeus: file d\n"),
         ("plain d -- sea", (false, true), "9 "),
         ("plain c -- sea", (true, false), "9 coeus: output\n"),
-        ("plain c --terms 0 -- sea", (false, false), "3 coeus: setting terms out of range\n"),
+        (
+            "plain c --terms 0 -- sea",
+            (false, false),
+            "3 coeus: setting terms out of range\n",
+        ),
         ("shape 16 5 1 2", (true, false), "9 coeus: output\n"),
     ] {
         let mut files = files_of(alloc, CORPUS)?;
@@ -123,34 +145,29 @@ fn answers_and_refusals(rt: HostRuntime) -> Result<(), Fail> {
     Ok(())
 }
 
+// How long the library `l` is, 0 where there is none.
+fn length_of(files: &mut MemoryFiles) -> usize {
+    match files.read("l", 1000) {
+        Ok(bytes) => bytes.as_slice().len(),
+        Err(_) => 0,
+    }
+}
+
 #[test]
 fn imports(rt: HostRuntime) -> Result<(), Fail> {
     let alloc = rt.alloc();
-    for (line, fails, want, bytes) in [
-        (
-            "import c l --degree 16",
-            (false, false),
-            "0 documents 1 terms 0 rows 1 bins 1 chunks 1\n",
-            332,
-        ),
-        ("import c l --degree 16", (true, false), "9 coeus: output\n", 332),
-        (
-            "import c l --degree 100",
-            (false, false),
-            "3 coeus: setting degree out of range\n",
-            0,
-        ),
-        ("import d l", (false, false), "9 coeus: file d\n", 0),
-    ] {
-        let mut files = files_of(alloc, EMPTY_TEXT)?;
-        let found = outcome(&rt, alloc, line, &mut files, fails)?;
+    for (line, fails, want, length) in IMPORTS {
+        let mut files = files_failing(alloc, EMPTY_TEXT, Vec::new(alloc))?;
+        let found = outcome(&rt, alloc, line, &mut files, (fails, false))?;
         assert_eq!(rt; found.as_str(), want);
-        let length = match files.read("l", 1000) {
-            Ok(bytes) => bytes.as_slice().len(),
-            Err(_) => 0,
-        };
-        assert_eq!(rt; length, bytes);
+        assert_eq!(rt; length_of(&mut files), length);
     }
+    Ok(())
+}
+
+#[test]
+fn failed_write(rt: HostRuntime) -> Result<(), Fail> {
+    let alloc = rt.alloc();
     let mut calls = Vec::new(alloc);
     calls.push(2)?;
     let mut files = files_failing(alloc, EMPTY_TEXT, calls)?;

@@ -21,7 +21,7 @@ pub returns-in-Some-clause-complete_import : goal.returns-in-Some-clause-complet
 returns-in-Some-clause-complete_import g c = λ i e unhindered. import_ends _ i _ _ _ _ e unhindered (returns-in-Some-clause-refused g c)
 
 pub returns-in-Some-clause-files : goal.returns-in-Some-clause-files
-returns-in-Some-clause-files g c = 
+returns-in-Some-clause-files g c =
     keeps_as _ _ (plain_spoken (map string_bytes c.args.words.now) (plain_shown c.in-Some.command) (sym c.read_plain.ensures ∙ ap (option_map plain_shown) c.in-Some.is)) c.run_plain.ensures.files
 
 pub returns-in-Some-read_import-clause-answered : goal.returns-in-Some-read_import-clause-answered
@@ -42,7 +42,7 @@ pub returns-in-Some-read_import-clause-unchanged : goal.returns-in-Some-read_imp
 returns-in-Some-read_import-clause-unchanged g c = λ two low. refused_keeps (returns-in-Some-read_import-clause-refused g c (λ zero. absurd (omega (arith, two, zero)))) low
 
 pub returns-in-Some-read_import-clause-files : goal.returns-in-Some-read_import-clause-files
-returns-in-Some-read_import-clause-files g c = 
+returns-in-Some-read_import-clause-files g c =
     keeps_as _ _ (import_spoken (map string_bytes c.args.words.now) (import_shown c.in-Some-read_import.command) (sym c.read_plain.ensures ∙ ap (option_map plain_shown) c.in-None.is) (sym c.read_import.ensures ∙ ap (option_map import_shown) c.in-Some-read_import.is)) c.run_import.ensures.files
 
 pub returns-in-Some-read_shape-clause-answered : goal.returns-in-Some-read_shape-clause-answered
@@ -60,7 +60,7 @@ pub returns-in-Some-read_shape-clause-complete_import : goal.returns-in-Some-rea
 returns-in-Some-read_shape-clause-complete_import g c = λ i e unhindered. import_ends _ i _ _ _ _ e unhindered (returns-in-Some-read_shape-clause-refused g c)
 
 pub returns-in-Some-read_shape-clause-files : goal.returns-in-Some-read_shape-clause-files
-returns-in-Some-read_shape-clause-files g c = 
+returns-in-Some-read_shape-clause-files g c =
     keeps_as _ _ (shape_spoken (map string_bytes c.args.words.now) c.in-Some-read_shape.shape (sym c.read_plain.ensures ∙ ap (option_map plain_shown) c.in-None.is) (sym c.read_import.ensures ∙ ap (option_map import_shown) c.in-None-read_import.is) (sym c.read_shape.ensures ∙ c.in-Some-read_shape.is)) refl
 
 pub returns-in-None-read_shape-clause-refused : goal.returns-in-None-read_shape-clause-refused
@@ -75,5 +75,5 @@ pub returns-in-None-read_shape-clause-complete_import : goal.returns-in-None-rea
 returns-in-None-read_shape-clause-complete_import g c = λ i e unhindered. import_ends _ i _ _ _ _ e unhindered (returns-in-None-read_shape-clause-refused g c)
 
 pub returns-in-None-read_shape-clause-files : goal.returns-in-None-read_shape-clause-files
-returns-in-None-read_shape-clause-files g c = 
+returns-in-None-read_shape-clause-files g c =
     keeps_as _ _ (none_spoken (map string_bytes c.args.words.now) (sym c.read_plain.ensures ∙ ap (option_map plain_shown) c.in-None.is) (sym c.read_import.ensures ∙ ap (option_map import_shown) c.in-None-read_import.is) (sym c.read_shape.ensures ∙ c.in-None-read_shape.is)) refl
