@@ -8,7 +8,8 @@ use co_library::Settings;
 use co_noise::Shape;
 use std::alloc::{AllocError, Global};
 
-/// What `plain CORPUS` is to do: the file, the rank of the picked hit, and the words of the query.
+/// What `plain CORPUS` is to do: the file, the most terms of the vocabulary and the most hits, the rank of the picked hit,
+/// and the words of the query.
 #[derive(Clone, Copy)]
 pub struct PlainCommand<'a> {
     pub corpus: &'a str,
