@@ -121,9 +121,7 @@ impl Options {
         }
         None
     }
-}
 
-impl Options {
     /// The pick, 1 to 64, or else 1, where no option was given that is for publishing alone.
     pub fn pick(self) -> Option<u32>
         ensures { result ≡ pick_of self }
