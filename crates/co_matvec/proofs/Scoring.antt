@@ -71,10 +71,10 @@ module _ (w : WeightMatrix) (keys : Keys) (query replies : List Ciphertext) (blo
       same : (x : ℕ) → x ≤ x
       same x = omega arith
 
-  module _ (d : IsDegree w.degree) (a : AreKeys keys) (each : All IsKey keys.rotations) (kn : keys_degree keys ≡ w.degree) (len : length query ≡ keyword_blocks w)
+  module _ (d : IsDegree w.degree) (a : AreKeys keys) (kn : keys_degree keys ≡ w.degree) (len : length query ≡ keyword_blocks w)
       (degrees : All (λ c. ciphertext_degree c ≡ w.degree) query) (ciphers : All IsCiphertext query) where
     set : AreRotationKeys w.degree (length keys.rotations) keys
-    set = subst (λ (n : ℕ). AreRotationKeys n (length keys.rotations) keys) kn (rotation_keys_are keys a each)
+    set = subst (λ (n : ℕ). AreRotationKeys n (length keys.rotations) keys) kn (rotation_keys_are keys a)
 
     whole : (b : ℕ) → b < keyword_blocks w → IsOfDegree w.degree (get_or query b no_ciphertext)
     whole b l = let u = subst (λ (x : ℕ). b < x) (sym len) l in record { cipher = ciphers b no_ciphertext u; degree = degrees b no_ciphertext u }

@@ -58,10 +58,10 @@ half_degree keys = halved (2 ^ length keys.rotations)
     halved x = omega arith
 
 -- the same for the keys of a set
-module _ (keys : Keys) (query : Ciphertext) (a : AreKeys keys) (each : All IsKey keys.rotations) (ok : IsCiphertext query) (one : ciphertext_degree query ≡ keys_degree keys)
+module _ (keys : Keys) (query : Ciphertext) (a : AreKeys keys) (ok : IsCiphertext query) (one : ciphertext_degree query ≡ keys_degree keys)
     (i : ℕ) (all : List Ciphertext) (before now : ℕ) (h : AreTurned keys query i all before now) where
   set : AreRotationKeys (keys_degree keys) (length keys.rotations) keys
-  set = rotation_keys_are keys a each
+  set = rotation_keys_are keys a
 
   pub set_degree : (xs : List Ciphertext) → xs ≡ all → i ≤ 2 ^ length keys.rotations → All (λ c. ciphertext_degree c ≡ keys_degree keys) xs
   set_degree xs e w = subst (λ (ys : List Ciphertext). All (λ c. ciphertext_degree c ≡ keys_degree keys) ys) (sym e) (turned-degree keys query (keys_degree keys) (length keys.rotations) set ok one i all before now h w)

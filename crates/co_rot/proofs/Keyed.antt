@@ -17,13 +17,13 @@ few_bits bits d = ⊎_elim
     (λ u. omega arith)
     (cases_lt 32 bits)
 
-pub rotation_keys_are : (keys : Keys) → AreKeys keys → All IsKey keys.rotations → AreRotationKeys (keys_degree keys) (length keys.rotations) keys
-rotation_keys_are keys a each = record {
+pub rotation_keys_are : (keys : Keys) → AreKeys keys → AreRotationKeys (keys_degree keys) (length keys.rotations) keys
+rotation_keys_are keys a = record {
   degree = a.degree;
   half = refl;
   few = few_bits (length keys.rotations) a.degree;
   count = refl;
-  keys_are = λ b u. each b no_key u;
+  keys_are = λ b u. a.rotations.each b no_key u;
   degrees = λ b u. a.rotations.degree b no_key u;
   elements = λ b u.
       sym (get_or-map (λ (key : Key). key.element) keys.rotations b no_key 0 u)
@@ -35,15 +35,15 @@ rotation_keys_are keys a each = record {
 pub read_as : {X : Type 0} (xs : List X) (i : ℕ) (x d : X) → i < length xs → x ≡ get_or xs i x → x ≡ get_or xs i d
 read_as xs i x d l e = sym (get_or_from_slice_get xs i x d (slice_get_read xs (length xs) i x refl l e))
 
-module _ (keys : Keys) (a : AreKeys keys) (each : All IsKey keys.rotations) (i bit : ℕ) (turned : 1 ≤ i) (within : i < 2 ^ length keys.rotations) (lowest : bit ≡ lowest_bit i)
+module _ (keys : Keys) (a : AreKeys keys) (i bit : ℕ) (turned : 1 ≤ i) (within : i < 2 ^ length keys.rotations) (lowest : bit ≡ lowest_bit i)
     (all : List Key) (all_are : all ≡ keys.rotations) where
   pub bit_within : bit < length all
-  bit_within = let k = rotation_keys_are keys a each in omega (arith, lowest-within (length keys.rotations) i turned within k.few, lowest, ap length all_are)
+  bit_within = let k = rotation_keys_are keys a in omega (arith, lowest-within (length keys.rotations) i turned within k.few, lowest, ap length all_are)
 
   pub key_read : (key : Key) → key ≡ get_or all bit key → key ≡ rotation_key keys (lowest_bit i)
   key_read key e = read_as all bit key no_key bit_within e ∙ (λ t. get_or (all_are t) (lowest t) no_key)
 
   pub key_read_degree : (key : Key) → key ≡ get_or all bit key → key_degree key ≡ keys_degree keys
   key_read_degree key e =
-      let k = rotation_keys_are keys a each in
+      let k = rotation_keys_are keys a in
       ap key_degree (key_read key e) ∙ k.degrees (lowest_bit i) (lowest-within (length keys.rotations) i turned within k.few)

@@ -1,6 +1,7 @@
 -- Lists of drawn keys, and the set of them.
 use Rattle.std.proofs.Common.{◌≡◌, ℕ, zero, suc, ◌+◌, ◌*◌, ◌/◌, ◌%◌, ◌^◌, ◌<◌, ◌≤◌, refl, sym, ap, subst, ◌∙◌, arith, ℤ, List, [], ◌∷◌, ◌++◌, map, length, get_or, All, length-append, add-one}
 use Rattle.std.specs.List.{range_with_len}
+use Rattle.std.proofs.lemmas.Nat.{pow_pos}
 use Rattle.std.proofs.lemmas.List.{map-append, get_or-map}
 use Rattle.std.proofs.lemmas.List.FromFn.{map-range_with_len_more, get_or-map-range_with_len}
 use Rattle.std.proofs.lemmas.List.Elements.{All-nil, All-push, All-get_or}
@@ -10,8 +11,8 @@ use Rattle.co_bfv.specs.Lists.{signed_coefficients}
 use Rattle.co_noise.specs.Shapes.{log2_up}
 use Rattle.co_switch.specs.Keys.{Key, Keys, IsKey, IsGoodKey, AreKeysOf, AreKeys, AreGoodKeys, key_degree, keys_degree, rotation_element, expansion_element, rotation_key, expansion_key, no_key}
 use Rattle.co_switch.specs.Draws.{key_draw, keys_draw, key_set_draw}
-use Rattle.co_switch.proofs.Hiding.{degree-key_draw, element-key_draw, key_draw-good}
-use Rattle.co_switch.proofs.Elements.{Half, half_of, rotation_element-odd, expansion_element-odd}
+use Rattle.co_switch.proofs.Hiding.{degree-key_draw, element-key_draw, key_draw-IsKey, key_draw-good}
+use Rattle.co_switch.proofs.Elements.{Half, half_of, rotation_element-odd, rotation_element-lt, expansion_element-odd, expansion_element-lt}
 
 -- one more drawn key
 pub keys_more : (secret : List ℤ) (element : ℕ → ℕ) (i : ℕ) (start now later : Stream) (keys more : List Key) (key : Key) (g : ℕ) → (keys, now) ≡ keys_draw secret element i start
@@ -26,24 +27,27 @@ pub no_keys : (secret : List ℤ) (element : ℕ → ℕ) (start : Stream) (keys
 unfolding keys_draw
 no_keys secret element start keys e = λ t. (e t, start)
 
--- the first drawn keys: their number, degree and elements, and that they are good
+-- the first drawn keys: that they are keys, their number, degree and elements, and that they are good
 pub record AreDrawn (secret : List ℤ) (element : ℕ → ℕ) (i : ℕ) (keys : List Key) : Type 0 where
   pub count : length keys ≡ i
+  pub each : All IsKey keys
   pub degree : All (λ key. key_degree key ≡ length secret) keys
   pub elements : map (λ key. key.element) keys ≡ map element (range_with_len 0 i)
   pub good : All (IsGoodKey (signed_coefficients secret)) keys
 
-pub keys_drawn : (secret : List ℤ) (element : ℕ → ℕ) (i : ℕ) (start : Stream) → IsDegree (length secret) → ((j : ℕ) → j < i → element j % 2 ≡ 1) → AreDrawn secret element i (keys_draw secret element i start).0
+pub keys_drawn : (secret : List ℤ) (element : ℕ → ℕ) (i : ℕ) (start : Stream) → IsDegree (length secret) → ((j : ℕ) → j < i → element j % 2 ≡ 1) → ((j : ℕ) → j < i → element j < 2 * length secret)
+    → AreDrawn secret element i (keys_draw secret element i start).0
 unfolding keys_draw
-keys_drawn secret element zero start d odd = record { count = refl; degree = All-nil (λ key. key_degree key ≡ length secret); elements = refl; good = All-nil (IsGoodKey (signed_coefficients secret)) }
-keys_drawn secret element (suc i) start d odd =
+keys_drawn secret element zero start d odd within = record { count = refl; each = All-nil IsKey; degree = All-nil (λ key. key_degree key ≡ length secret); elements = refl; good = All-nil (IsGoodKey (signed_coefficients secret)) }
+keys_drawn secret element (suc i) start d odd within =
     let before = keys_draw secret element i start in
-    let h = keys_drawn secret element i start d (λ j l. odd j (omega arith)) in
+    let h = keys_drawn secret element i start d (λ j l. odd j (omega arith)) (λ j l. within j (omega arith)) in
     let g = element i in
     let o = odd i (omega arith) in
     let key = (key_draw secret g before.1).0 in
     record {
       count = omega (arith, length-append before.0 (key ∷ []), h.count);
+      each = All-push IsKey before.0 key h.each (key_draw-IsKey secret g before.1 d o (within i (omega arith)));
       degree = All-push (λ key. key_degree key ≡ length secret) before.0 key h.degree (degree-key_draw secret g before.1 d o);
       elements =
           map-append (λ key. key.element) before.0 (key ∷ [])
@@ -55,16 +59,20 @@ keys_drawn secret element (suc i) start d odd =
 
 listed : (n : ℕ) (secret : List ℤ) (element other : ℕ → ℕ) (i : ℕ) (keys : List Key) → AreDrawn secret element i keys → length secret ≡ n → other ≡ element → AreKeysOf n other keys
 listed n secret element other i keys h e f = record {
+  each = h.each;
   degree = subst (λ (m : ℕ). All (λ key. key_degree key ≡ m) keys) e h.degree;
   elements = h.elements ∙ (λ t. map (sym f t) (range_with_len 0 (sym h.count t)));
 }
 
 module _ (secret : List ℤ) (d : IsDegree (length secret)) (levels : ℕ) (h : Half (length secret)) (few : levels ≤ h.exponent + 1) where
+  two : 2 ≤ length secret
+  two = omega (arith, h.is, pow_pos h.exponent)
+
   pub rotations_drawn : (start : Stream) → AreDrawn secret (rotation_element (length secret)) (log2_up (length secret / 2)) (keys_draw secret (rotation_element (length secret)) (log2_up (length secret / 2)) start).0
-  rotations_drawn start = keys_drawn secret (rotation_element (length secret)) (log2_up (length secret / 2)) start d (λ j l. rotation_element-odd (length secret) j)
+  rotations_drawn start = keys_drawn secret (rotation_element (length secret)) (log2_up (length secret / 2)) start d (λ j l. rotation_element-odd (length secret) j) (λ j l. rotation_element-lt (length secret) j (omega (arith, two)))
 
   pub expansions_drawn : (start : Stream) → AreDrawn secret (expansion_element (length secret)) levels (keys_draw secret (expansion_element (length secret)) levels start).0
-  expansions_drawn start = keys_drawn secret (expansion_element (length secret)) levels start d (λ j l. expansion_element-odd (length secret) j h (omega (arith, few)))
+  expansions_drawn start = keys_drawn secret (expansion_element (length secret)) levels start d (λ j l. expansion_element-odd (length secret) j h (omega (arith, few))) (λ j l. expansion_element-lt (length secret) j two)
 
   -- the drawn set is one
   pub key_set_draw-AreKeys : (start : Stream) → AreKeys (key_set_draw secret levels start).0

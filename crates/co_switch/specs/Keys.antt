@@ -55,6 +55,7 @@ expansion_element n j = n / 2 ^ j + 1
 
 -- keys of degree n with these elements, in order
 pub record AreKeysOf (n : ℕ) (element : ℕ → ℕ) (keys : List Key) : Type 0 where
+  pub each : All IsKey keys
   pub degree : All (λ key. key_degree key ≡ n) keys
   pub elements : map (λ key. key.element) keys ≡ map element (range_with_len 0 (length keys))
 
