@@ -1,6 +1,6 @@
 -- Characters that are no control characters of ASCII.
 use Rattle.std.proofs.Common.{◌≡◌, ℕ, ◌≤◌, true, refl, arith, List, ◌++◌, ◌∙◌}
-use Rattle.std.specs.Prelude.{encode_utf8, ◌&&◌}
+use Rattle.std.specs.Prelude.{encode_utf8}
 use Rattle.std.specs.List.{list_all}
 use Rattle.std.proofs.Math.Utf8.{encode}
 use Rattle.std.proofs.lemmas.Bool.Decides.{nat_tests}

@@ -1,4 +1,4 @@
-use Rattle.std.proofs.Common.{◌≡◌, ◌≤◌, length, true, refl, sym, ◌∙◌, arith, ap, string_bytes}
+use Rattle.std.proofs.Common.{length, refl, sym, ◌∙◌, arith, ap, string_bytes}
 use Rattle.std.specs.List.{list_all}
 use Rattle.std.proofs.lemmas.Str.{IsUtf8-string_bytes}
 use Rattle.co_text.specs.Titles.{IsTitle, is_plain}

@@ -9,12 +9,7 @@ use Rattle.caseless.specs.Caseless.{default_case_fold}
 use Rattle.caseless.proofs.CaselessLemmas.{default_case_fold-cons, full_fold-none, full_fold-some}
 use Rattle.unicode_segmentation.specs.Segments.{has_alphanumeric, is_alphanumeric}
 use Rattle.unicode_segmentation.specs.Word.{word_bounds}
-use Rattle.co_text.specs.Terms.{folded, is_short, terms}
-
--- 1 to 64 bytes
-pub record HasSize (t : List ℕ) : Type 0 where
-  pub some : 1 ≤ length t
-  pub few : length t ≤ 64
+use Rattle.co_text.specs.Terms.{HasSize, folded, is_short, terms}
 
 -- ---- one term
 
