@@ -1,20 +1,20 @@
 -- What the ciphertexts of a retrieval mean.
-use Rattle.std.specs.Prelude.{ℕ, ℤ, ◌+◌, ◌-◌, ◌*◌, ◌^◌, ◌<◌, ◌≡◌, List, length}
+use Rattle.std.specs.Prelude.{ℕ, ℤ, ◌+◌, ◌-◌, ◌*◌, ◌^◌, ◌<◌, ◌≡◌, List, length, All}
 use Rattle.co_math.specs.Polynomials.{IsWrapped}
 use Rattle.co_math.specs.Bounds.{fresh_bound, switch_bound}
 use Rattle.co_math.specs.Coefficients.{coefficients, AreBelow}
 use Rattle.co_ring.specs.Polynomials.{polynomial_of}
 use Rattle.co_noise.specs.Shapes.{log2_up}
 use Rattle.co_bfv.specs.Ciphertexts.{Ciphertext, ciphertext_degree, MeansWithin}
-use Rattle.co_switch.specs.Keys.{Keys, AreGoodKeys}
+use Rattle.co_switch.specs.Keys.{Keys, IsGoodKey}
 use Rattle.co_pir.specs.Messages.{query_polynomial}
 use Rattle.co_pir.specs.Replies.{ciphertext_at}
 use Rattle.co_pir.specs.Tables.{payload, piece}
 
--- under the secret s, for which the keys are good, the query is a fresh one for a row of so many rows
+-- under the secret s, for which the expansion keys are good, the query is a fresh one for a row of so many rows
 pub record AsksRow (s : ℤ → ℤ) (keys : Keys) (query : Ciphertext) (rows row : ℕ) : Type 0 where
   pub secret : IsWrapped (ciphertext_degree query) s
-  pub good : AreGoodKeys s keys
+  pub good : All (IsGoodKey s) keys.expansions
   pub within : row < rows
   pub asks : MeansWithin s query (polynomial_of (query_polynomial (ciphertext_degree query) rows row)) fresh_bound
 
