@@ -3,3 +3,4 @@ pub mod Wholes
 pub mod Digits
 pub mod Centring
 pub mod Parting
+pub mod Spectra_agree

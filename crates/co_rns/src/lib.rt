@@ -12,8 +12,10 @@
 pub mod laws;
 pub mod pairs;
 pub mod parts;
+pub mod spectra;
 
 pub use pairs::Pair;
+pub use spectra::{PairSpectrum, Tables, from_spectrum, to_spectrum};
 
 #[cfg(test)]
 mod tests;

@@ -16,8 +16,8 @@ use std::marker::Model;
 /// A polynomial modulo X^n + 1 and q.
 #[derive(Drop)]
 pub struct Pair {
-    first: Poly,
-    second: Poly,
+    pub(crate) first: Poly,
+    pub(crate) second: Poly,
 }
 
 impl Model for Pair {

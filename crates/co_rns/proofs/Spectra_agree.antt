@@ -1,0 +1,42 @@
+-- Values of polynomials that agree modulo m, and of sums of products.
+use Rattle.std.proofs.Common.{◌≡◌, ℕ, ◌+◌, ◌*◌, ◌<◌, refl, sym, ap, subst, ◌∙◌, arith, ℤ, pos, negsuc, List, length}
+use Rattle.co_math.specs.Residues.{residue, Congruent}
+use Rattle.co_math.specs.Powers.{power, root}
+use Rattle.co_math.specs.Values.{value, value_at}
+use Rattle.co_math.specs.Polynomials.{IsWrapped, plus, product}
+use Rattle.co_math.specs.Coefficients.{IsDegree}
+use Rattle.co_math.specs.Parameters.{first_modulus, second_modulus}
+use Rattle.co_math.proofs.Residues.{residue-same}
+use Rattle.co_math.proofs.Values.{value-congruent}
+use Rattle.co_math.proofs.Agreements.{Agree}
+use Rattle.co_math.proofs.Places.{degree_positive}
+use Rattle.co_ring.specs.declared.moduli.Modulus.{Modulus}
+use Rattle.co_ring.specs.declared.moduli.Modulus.TheVariants.{First, Second}
+use Rattle.co_ring.specs.Moduli.{value_of}
+use Rattle.co_ring.proofs.Keeping.{value-positive}
+use Rattle.co_ring.specs.Spectra.{AreValues, AreAddedProducts}
+use Rattle.co_ring.proofs.Rooted.{root_minus}
+use Rattle.co_ring.proofs.Orderings.{added_values}
+use Rattle.co_rns.specs.Spectra.{PairValues, IsSpectrumOf, IsAddedProduct}
+
+pub values_agree : (m n : ℕ) (f g : ℤ → ℤ) (xs : List ℕ) → 0 < m → Agree m f g → AreValues m n f xs → AreValues m n g xs
+unfolding value_at
+values_agree m n f g xs z h v = record {
+  len = v.len;
+  each = λ k u.
+      let x = power (pos (root m n)) (2 * k + 1) in
+      v.each k u ∙ residue-same m (value_at n f x) (value_at n g x) z (value-congruent m n (λ j. f (pos j)) (λ j. g (pos j)) x (λ i w. h (pos i)));
+}
+
+-- the same under equal moduli and degrees
+pub part_values : (a b : Modulus) (k n : ℕ) (f g : ℤ → ℤ) (xs : List ℕ) → a ≡ b → k ≡ n → Agree (value_of b) f g → AreValues (value_of a) k f xs → AreValues (value_of b) n g xs
+part_values a b k n f g xs e d h v =
+    values_agree (value_of b) n f g xs (value-positive b) h (subst (λ (j : ℕ). AreValues (value_of b) j f xs) d (subst (λ (m : Modulus). AreValues (value_of m) k f xs) e v))
+
+-- the values of a sum to which a product was added
+pub added : (n : ℕ) (e f g : ℤ → ℤ) (old a b new : PairValues) → IsDegree n → IsWrapped n g → IsSpectrumOf n e old → IsSpectrumOf n f a → IsSpectrumOf n g b
+    → IsAddedProduct old a b new → IsSpectrumOf n (plus e (product n f g)) new
+added n e f g old a b new d w x y z s = record {
+  first_values = added_values first_modulus n e f g old.first a.first b.first new.first (omega arith) (degree_positive n d) w (root_minus First n d) x.first_values y.first_values z.first_values s.first_sums;
+  second_values = added_values second_modulus n e f g old.second a.second b.second new.second (omega arith) (degree_positive n d) w (root_minus Second n d) x.second_values y.second_values z.second_values s.second_sums;
+}
