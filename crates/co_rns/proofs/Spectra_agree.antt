@@ -17,7 +17,8 @@ use Rattle.co_ring.proofs.Keeping.{value-positive}
 use Rattle.co_ring.specs.Spectra.{AreValues, AreAddedProducts}
 use Rattle.co_ring.proofs.Rooted.{root_minus}
 use Rattle.co_ring.proofs.Orderings.{added_values}
-use Rattle.co_rns.specs.Spectra.{PairValues, IsSpectrumOf, IsAddedProduct}
+use Rattle.co_ring.proofs.Summing.{sums_none, sums_with, sums_reduced}
+use Rattle.co_rns.specs.Spectra.{PairValues, PairSums, IsSpectrumOf, IsAddedProduct, IsNoPairSum, IsPairSumWith, IsPairSumOf, IsReducedPair}
 
 pub values_agree : (m n : ℕ) (f g : ℤ → ℤ) (xs : List ℕ) → 0 < m → Agree m f g → AreValues m n f xs → AreValues m n g xs
 unfolding value_at
@@ -39,4 +40,21 @@ pub added : (n : ℕ) (e f g : ℤ → ℤ) (old a b new : PairValues) → IsDeg
 added n e f g old a b new d w x y z s = record {
   first_values = added_values first_modulus n e f g old.first a.first b.first new.first (omega arith) (degree_positive n d) w (root_minus First n d) x.first_values y.first_values z.first_values s.first_sums;
   second_values = added_values second_modulus n e f g old.second a.second b.second new.second (omega arith) (degree_positive n d) w (root_minus Second n d) x.second_values y.second_values z.second_values s.second_sums;
+}
+
+-- the same of sums that are not reduced
+pub gathered_none : (n : ℕ) (s : PairSums) → IsNoPairSum n s → IsPairSumOf n (λ _. pos 0) s
+gathered_none n s h = record { first_sums = sums_none first_modulus n s.first h.first_zeros; second_sums = sums_none second_modulus n s.second h.second_zeros }
+
+pub gathered_with : (n : ℕ) (e f g : ℤ → ℤ) (old new : PairSums) (a b : PairValues) → IsDegree n → IsWrapped n g → IsPairSumOf n e old → IsSpectrumOf n f a → IsSpectrumOf n g b
+    → IsPairSumWith old a b new → IsPairSumOf n (plus e (product n f g)) new
+gathered_with n e f g old new a b d w x y z s = record {
+  first_sums = sums_with first_modulus n e f g old.first a.first b.first new.first (omega arith) (degree_positive n d) w (root_minus First n d) x.first_sums y.first_values z.first_values s.first_sums;
+  second_sums = sums_with second_modulus n e f g old.second a.second b.second new.second (omega arith) (degree_positive n d) w (root_minus Second n d) x.second_sums y.second_values z.second_values s.second_sums;
+}
+
+pub gathered_reduced : (n : ℕ) (f : ℤ → ℤ) (s : PairSums) (values : PairValues) → IsPairSumOf n f s → IsReducedPair s values → IsSpectrumOf n f values
+gathered_reduced n f s values h r = record {
+  first_values = sums_reduced first_modulus n f s.first values.first (omega arith) h.first_sums r.first_values;
+  second_values = sums_reduced second_modulus n f s.second values.second (omega arith) h.second_sums r.second_values;
 }

@@ -17,3 +17,8 @@ pub record IsPair (first second : Polynomial) : Type 0 where
 pub record IsWhole (coeffs : List ℕ) : Type 0 where
   pub degree : IsDegree (length coeffs)
   pub below : AreBelow q coeffs
+
+-- the coefficients of a polynomial modulo q, and room for a digit of each
+pub record IsDecomposition (coeffs digits : List ℕ) : Type 0 where
+  pub whole : IsWhole coeffs
+  pub one_degree : length digits ≡ length coeffs

@@ -9,13 +9,17 @@
 //! Not here: what a polynomial modulo q hides (co_bfv), keys made of digits (co_switch).
 #![tactic(auto)]
 
+pub mod decompositions;
 pub mod laws;
 pub mod pairs;
 pub mod parts;
 pub mod spectra;
+pub mod sums;
 
+pub use decompositions::Decomposition;
 pub use pairs::Pair;
 pub use spectra::{PairSpectrum, Tables, from_spectrum, to_spectrum};
+pub use sums::PairSum;
 
 #[cfg(test)]
 mod tests;

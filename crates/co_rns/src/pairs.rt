@@ -53,6 +53,17 @@ impl Pair {
         })
     }
 
+    /// A polynomial modulo t with its centred coefficients, those of least absolute value.
+    pub fn centred(alloc: Global, plain: &Poly) -> Result<Pair, AllocError>
+        requires { plain.now.modulus ≡ Modulus.Plain }
+        ensures { IfOk result (AreResidues q (degree_of plain.now) (centred_coefficients plain.now.coeffs)) }
+    {
+        Ok(Pair {
+            first: parts::centred(alloc, plain, Modulus::First)?,
+            second: parts::centred(alloc, plain, Modulus::Second)?,
+        })
+    }
+
     /// The pair of these residues.
     pub fn from_parts(first: Poly, second: Poly) -> Pair
         requires first_modulus { first.modulus ≡ Modulus.First }

@@ -11,20 +11,26 @@ ghost use Rattle.co_rns.specs.Residue_pairs.{composed, all_composed, AreResidues
 use co_math::parameters::{
     DIGIT_BASE, DIGIT_BITS, FIRST_MODULUS, INVERSE_OF_FIRST, PLAIN_MODULUS, SECOND_MODULUS,
 };
-use co_ring::numbers::{multiply, subtract};
+use co_ring::numbers::{multiply_by, subtract};
 use co_ring::{Degree, Modulus, Poly};
 use std::alloc::{AllocError, Global};
 
+/// floor(INVERSE_OF_FIRST * 2^64 / SECOND_MODULUS).
+const INVERSE_QUOTIENT: u64 =
+    (INVERSE_OF_FIRST as u128 * 18446744073709551616 / SECOND_MODULUS as u128) as u64;
+
 /// The number below q with these residues.
+#[inline]
 pub fn compose(first: u64, second: u64) -> u128
     requires first { first < first_modulus }
     requires second { second < second_modulus }
     ensures value { result ≡ composed first second }
     ensures reduced { result < q }
 {
-    let times = multiply(
+    let times = multiply_by(
         subtract(second, first, SECOND_MODULUS),
         INVERSE_OF_FIRST,
+        INVERSE_QUOTIENT,
         SECOND_MODULUS,
     );
     first as u128 + FIRST_MODULUS as u128 * times as u128
@@ -50,6 +56,7 @@ pub fn reduce(
 }
 
 /// A digit of a number.
+#[inline]
 pub fn digit_of(coefficient: u128, index: u32) -> u64
     requires { index < digit_count }
     ensures value { result ≡ coefficient / digit_base ^ index % digit_base }
@@ -59,6 +66,7 @@ pub fn digit_of(coefficient: u128, index: u32) -> u64
 }
 
 /// The coefficient at a place, from its residues.
+#[inline]
 pub fn compose_at(first: &Poly, second: &Poly, at: usize) -> u128
     requires first_modulus { first.now.modulus ≡ Modulus.First }
     requires second_modulus { second.now.modulus ≡ Modulus.Second }
@@ -95,6 +103,30 @@ pub fn write_digits(
         let digit = digit_of(compose_at(first, second, k), index);
         into_first.set(k, digit);
         into_second.set(k, digit);
+    }
+}
+
+/// All coefficients, from their residues.
+pub fn compose_all(first: &Poly, second: &Poly, into: &mut [u128])
+    requires first_modulus { first.now.modulus ≡ Modulus.First }
+    requires second_modulus { second.now.modulus ≡ Modulus.Second }
+    requires one_degree { degree_of second.now ≡ degree_of first.now }
+    requires into_degree { length into.old ≡ degree_of first.now }
+    ensures { into.new ≡ all_composed first.now.coeffs second.now.coeffs }
+{
+    for k in 0..into.len() {
+        into[k] = compose_at(first, second, k);
+    }
+}
+
+/// The digit at a place of each coefficient.
+pub fn digits_of(coeffs: &[u128], index: u32, into: &mut [u64])
+    requires index { index < digit_count }
+    requires into_degree { length into.old ≡ length coeffs.now }
+    ensures { AreDigits digit_base index coeffs.now into.new }
+{
+    for k in 0..into.len() {
+        into[k] = digit_of(coeffs[k], index);
     }
 }
 

@@ -1,12 +1,12 @@
 // The values of polynomials modulo q at the roots of -1, and transforms between both.
 
 ghost use Rattle.std.specs.Prelude.{◌≡◌, ℕ, ℤ, length, pos, IfOk};
-ghost use Rattle.co_math.specs.Parameters.{q};
-ghost use Rattle.co_math.specs.Coefficients.{coefficients, AreResidues, IsDegree};
+ghost use Rattle.co_math.specs.Parameters.{first_modulus, q};
+ghost use Rattle.co_math.specs.Coefficients.{coefficients, AreBelow, AreResidues, IsDegree};
 ghost use Rattle.co_rns.specs.Spectra.{IsAddedProduct, IsSpectrumOf, spectrum_degree};
 
 use crate::pairs::Pair;
-use co_ring::{Degree, Modulus, Spectrum, Table, forward, inverse};
+use co_ring::{Degree, Modulus, Spectrum, Table, forward, forward_coeffs, inverse};
 use std::alloc::{AllocError, Global};
 use std::marker::Model;
 
@@ -51,8 +51,8 @@ impl Tables {
 /// where psi is the modulus's root for n.
 #[derive(Drop)]
 pub struct PairSpectrum {
-    first: Spectrum,
-    second: Spectrum,
+    pub(crate) first: Spectrum,
+    pub(crate) second: Spectrum,
 }
 
 impl Model for PairSpectrum {
@@ -106,11 +106,24 @@ pub fn to_spectrum(tables: &Tables, pair: &Pair, into: &mut PairSpectrum)
     forward(&tables.second, &pair.second, &mut into.second);
 }
 
-/// The polynomial modulo q back from its values: whichever f it is that has them.
+/// The values of a polynomial whose coefficients, the constant first, are below both moduli.
+pub fn small_to_spectrum(tables: &Tables, coeffs: &[u64], into: &mut PairSpectrum)
+    requires one_degree { length coeffs.now ≡ tables.now }
+    requires small { AreBelow first_modulus coeffs.now }
+    requires into_degree { spectrum_degree into.old ≡ tables.now }
+    ensures { IsSpectrumOf tables.now (coefficients coeffs.now) into.new }
+{
+    forward_coeffs(&tables.first, coeffs, &mut into.first);
+    forward_coeffs(&tables.second, coeffs, &mut into.second);
+}
+
+/// The polynomial modulo q with these values. There is one: `back` says that each f with the
+/// values is it.
 pub fn from_spectrum(tables: &Tables, values: &PairSpectrum, into: &mut Pair)
     requires values_degree { spectrum_degree values.now ≡ tables.now }
     requires into_degree { length into.old ≡ tables.now }
     ensures degree { length into.new ≡ tables.now }
+    ensures values { IsSpectrumOf tables.now (coefficients into.new) values.now }
     ensures back { (f : ℤ → ℤ) → IsSpectrumOf tables.now f values.now → AreResidues q tables.now f into.new }
 {
     inverse(&tables.first, &values.first, &mut into.first);

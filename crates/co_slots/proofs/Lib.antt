@@ -1,6 +1,5 @@
 pub mod Exponents
-pub mod Inverting
 pub mod Recovering
-pub mod Sums
+pub mod Placing
 pub mod Slotwise
 pub mod Spelling

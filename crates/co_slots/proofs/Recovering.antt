@@ -12,7 +12,7 @@ use Rattle.co_math.proofs.Totals.{total-same, total-scale, total-swap, total-per
 use Rattle.co_math.proofs.Geometric.{orthogonal}
 use Rattle.co_math.proofs.Substitutions.{power-period}
 use Rattle.co_math.proofs.Pigeons.{permutes, place_of}
-use Rattle.co_slots.proofs.Inverting.{cong-single}
+use Rattle.co_ring.proofs.Inverting.{cong-single}
 
 module _ (m n l : ℕ) (psi : ℤ) (whole : n ≡ 2 ^ l) (minus : Congruent m (power psi n) (negsuc 0)) (E : ℕ → ℕ) (below : (p : ℕ) → p < n → E p < 2 * n)
     (odd : (p : ℕ) → p < n → E p % 2 ≡ 1) (differ : (p q : ℕ) → p < n → q < n → p ≢ q → E p ≢ E q) where

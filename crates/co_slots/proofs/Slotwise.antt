@@ -30,7 +30,7 @@ use Rattle.co_ring.proofs.Ordered.{powers_return}
 use Rattle.co_slots.specs.Slots.{exponent_of, slot, AreSlots}
 use Rattle.co_slots.proofs.Exponents.{exponent-first, exponent-second, exponent-lt, exponent-odd, exponents_differ}
 use Rattle.co_slots.proofs.Recovering.{values_apart}
-use Rattle.co_slots.proofs.Sums.{degree-inverse}
+use Rattle.co_slots.proofs.Placing.{degree-inverse}
 
 -- where a polynomial is evaluated for slot p
 pub point : ℕ → ℕ → ℤ

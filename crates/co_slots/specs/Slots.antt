@@ -1,11 +1,13 @@
 -- Slots: values of a polynomial modulo t at powers of its root.
-use Rattle.std.specs.Prelude.{ℕ, ℤ, pos, neg_ℤ, ◌*ℤ◌, ◌+◌, ◌-◌, ◌*◌, ◌/◌, ◌<◌, ◌≡◌, List, length, slice_index, nat_lt, if◌then◌else◌}
+use Rattle.std.specs.Prelude.{ℕ, ℤ, pos, neg_ℤ, ◌-◌, ◌*◌, ◌/◌, ◌<◌, ◌≡◌, ◌^◌, List, length, slice_index, nat_lt, if◌then◌else◌}
 use Rattle.co_math.specs.Residues.{residue}
-use Rattle.co_math.specs.Sums.{total}
 use Rattle.co_math.specs.Powers.{power, root}
 use Rattle.co_math.specs.Values.{value_at}
 use Rattle.co_math.specs.Coefficients.{coefficients}
+use Rattle.co_math.specs.Exponents.{place}
 use Rattle.co_math.specs.Parameters.{plain_modulus}
+use Rattle.co_ring.specs.declared.moduli.Modulus.TheVariants.{Plain}
+use Rattle.co_ring.specs.Tables.{Shape}
 
 -- the exponent of slot p: 3^p in the first row, -3^(p - n/2) in the second
 unfoldable pub exponent_of : ℕ → ℕ → ℕ
@@ -20,16 +22,17 @@ pub record AreSlots (coeffs slots : List ℕ) : Type 0 where
   pub len : length slots ≡ length coeffs
   pub each : (p : ℕ) → p < length coeffs → slice_index slots p ≡ slot coeffs p
 
--- the first powers of the root
-pub record AreRootPowers (n count : ℕ) (xs : List ℕ) : Type 0 where
+-- the places of the first slots among the leaves of the transform, which has value k at k's bits in the opposite order
+pub record ArePlaces (n count : ℕ) (xs : List ℕ) : Type 0 where
   pub len : length xs ≡ count
-  pub each : (i : ℕ) → i < count → slice_index xs i ≡ residue plain_modulus (power (pos (root plain_modulus n)) i)
+  pub each : (l p : ℕ) → n ≡ 2 ^ l → p < count → slice_index xs p ≡ place l (exponent_of n p / 2)
 
--- the exponents of the first slots
-pub record AreExponents (n count : ℕ) (xs : List ℕ) : Type 0 where
-  pub len : length xs ≡ count
-  pub each : (p : ℕ) → p < count → slice_index xs p ≡ exponent_of n p
+-- a table modulo t, and the places of all its slots
+pub record IsSlotTable (table : Shape) (places : List ℕ) : Type 0 where
+  pub plain : table.modulus ≡ Plain
+  pub slots : ArePlaces table.degree table.degree places
 
--- the sum of values[p] * zeta^(-exponent p * k)
-unfoldable pub interpolation : List ℕ → ℕ → ℤ
-interpolation values k = total (length values) (λ p. pos (slice_index values p) *ℤ power (pos (root plain_modulus (length values))) ((2 * length values - exponent_of (length values) p) * k))
+-- the first count slots are among the values, slot p at half of its odd exponent
+pub record AreScattered (n count : ℕ) (slots values : List ℕ) : Type 0 where
+  pub len : length values ≡ n
+  pub each : (p : ℕ) → p < count → slice_index values (exponent_of n p / 2) ≡ slice_index slots p

@@ -14,7 +14,7 @@ pub mod payloads;
 pub mod slots;
 
 pub use payloads::{ByteFault, decode_bytes, encode_bytes};
-pub use slots::{decode_slots, encode_slots};
+pub use slots::{SlotTable, decode_slots, encode_slots};
 
 #[cfg(test)]
 mod tests;

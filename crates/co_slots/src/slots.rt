@@ -1,18 +1,105 @@
-// Slots, by sums of powers of the root.
+// Slots, by the transform modulo t.
 
-ghost use Rattle.std.specs.Prelude.{◌≡◌, ◌+◌, ◌*◌, ◌<◌, length, slice_index, pos, ◌*ℤ◌, IfOk};
+ghost use Rattle.std.specs.Prelude.{◌≡◌, ◌+◌, ◌*◌, ◌/◌, ◌<◌, ◌≤◌, ◌^◌, ℕ, length, slice_index, pos, IfOk};
 ghost use Rattle.co_math.specs.Parameters.{plain_modulus};
-ghost use Rattle.co_math.specs.Residues.{residue, Congruent};
-ghost use Rattle.co_math.specs.Powers.{power as power_of, root};
-ghost use Rattle.co_math.specs.Values.{value_at};
-ghost use Rattle.co_math.specs.Coefficients.{coefficients, AreBelow, IsDegree};
+ghost use Rattle.co_math.specs.Exponents.{place};
+ghost use Rattle.co_math.specs.Coefficients.{AreBelow, IsDegree};
 ghost use Rattle.co_ring.specs.Polynomials.{degree_of};
-ghost use Rattle.co_slots.specs.Slots.{exponent_of, interpolation, AreSlots, AreRootPowers, AreExponents};
+ghost use Rattle.co_slots.specs.Slots.{exponent_of, AreScattered, AreSlots, ArePlaces};
 
-use co_math::parameters::PLAIN_MODULUS;
-use co_ring::numbers::{multiply, multiply_add, negate, power};
-use co_ring::{Degree, Modulus, Poly};
+use co_ring::numbers::{negate, power};
+use co_ring::{Degree, Modulus, Poly, Spectrum, Table, forward, inverse};
+use co_transform::tables::reversed;
 use std::alloc::{AllocError, Global};
+use std::marker::Model;
+
+/// The table of the transform modulo t, and where each slot stands among its leaves, made once
+/// for a degree: 40 * n bytes.
+#[derive(Drop)]
+pub struct SlotTable {
+    table: Table,
+    places: Vec<usize>,
+}
+
+impl Model for SlotTable {
+    ghost use Rattle.std.specs.Prelude.{ℕ};
+    ghost use Rattle.co_slots.specs.Slots.{IsSlotTable};
+
+    ghost Value = { ℕ };
+
+    ghost view = { λ t. t.table.degree };
+
+    ghost invariant = { λ t. IsSlotTable t.table t.places.items };
+}
+
+impl SlotTable {
+    /// The table for this degree.
+    pub fn new(alloc: Global, degree: Degree) -> Result<SlotTable, AllocError>
+        ensures { IfOk result (λ t. t ≡ degree) }
+    {
+        Ok(SlotTable {
+            table: Table::new(alloc, Modulus::Plain, degree)?,
+            places: places(alloc, degree)?,
+        })
+    }
+
+    /// Writes the polynomial with these slots, the first row before the second. The spectrum is
+    /// scratch.
+    pub fn encode(&self, values: &[u64], scratch: &mut Spectrum, into: &mut Poly)
+        requires one_degree { length values.now ≡ self.now }
+        requires reduced { AreBelow plain_modulus values.now }
+        requires scratch_modulus { scratch.old.modulus ≡ Modulus.Plain }
+        requires scratch_degree { length scratch.old.values ≡ self.now }
+        requires into_modulus { into.old.modulus ≡ Modulus.Plain }
+        requires into_degree { degree_of into.old ≡ self.now }
+        ensures modulus { into.new.modulus ≡ Modulus.Plain }
+        ensures slots { AreSlots into.new.coeffs values.now }
+    {
+        scatter(&self.places, values, scratch);
+        inverse(&self.table, scratch, into);
+    }
+
+    /// Writes the slots of a polynomial, the first row before the second. The spectrum is scratch.
+    pub fn decode(&self, poly: &Poly, scratch: &mut Spectrum, into: &mut [u64])
+        requires modulus { poly.now.modulus ≡ Modulus.Plain }
+        requires one_degree { degree_of poly.now ≡ self.now }
+        requires scratch_modulus { scratch.old.modulus ≡ Modulus.Plain }
+        requires scratch_degree { length scratch.old.values ≡ self.now }
+        requires into_degree { length into.old ≡ self.now }
+        ensures { AreSlots poly.now.coeffs into.new }
+    {
+        forward(&self.table, poly, scratch);
+        gather(&self.places, scratch, into);
+    }
+}
+
+/// Puts the value of each slot where it stands in a spectrum.
+fn scatter(places: &[usize], values: &[u64], into: &mut Spectrum)
+    requires degree { IsDegree (length values.now) }
+    requires places { ArePlaces (length values.now) (length values.now) places.now }
+    requires reduced { AreBelow plain_modulus values.now }
+    requires into_modulus { into.old.modulus ≡ Modulus.Plain }
+    requires into_degree { length into.old.values ≡ length values.now }
+    ensures modulus { into.new.modulus ≡ Modulus.Plain }
+    ensures values { AreScattered (length values.now) (length values.now) values.now into.new.values }
+{
+    for p in 0..values.len() {
+        into.set_leaf(places[p], values[p]);
+    }
+}
+
+/// Reads the value of each slot where it stands in a spectrum.
+fn gather(places: &[usize], values: &Spectrum, into: &mut [u64])
+    requires degree { IsDegree (length into.old) }
+    requires places { ArePlaces (length into.old) (length into.old) places.now }
+    requires one_degree { length values.now.values ≡ length into.old }
+    ensures len { length into.new ≡ length into.old }
+    ensures values { AreScattered (length into.old) (length into.old) into.new values.now.values }
+{
+    for p in 0..into.len() {
+        into[p] = values.leaf(places[p]);
+    }
+}
 
 /// The exponent of the root whose power is the point of slot p.
 fn exponent(n: usize, p: usize) -> u64
@@ -28,64 +115,17 @@ fn exponent(n: usize, p: usize) -> u64
     }
 }
 
-/// The exponents of all slots, in order.
-fn exponents(alloc: Global, n: usize) -> Result<Vec<u64>, AllocError>
-    requires { IsDegree n }
-    ensures { IfOk result (λ v. AreExponents n n v.items) }
+/// Where each slot stands among the leaves of the transform.
+fn places(alloc: Global, degree: Degree) -> Result<Vec<usize>, AllocError>
+    ensures { IfOk result (λ v. ArePlaces degree degree v.items) }
 {
-    let mut all = Vec::new(alloc);
+    let n = degree.get() as usize;
+    let levels = degree.exponent();
+    let mut all = Vec::with_capacity(alloc, n)?;
     for p in 0..n {
-        all.push(exponent(n, p))?;
+        all.push(reversed(levels, exponent(n, p) as usize / 2))?;
     }
     Ok(all)
-}
-
-/// The powers of the root, over a whole turn.
-fn root_powers(alloc: Global, degree: Degree) -> Result<Vec<u64>, AllocError>
-    ensures { IfOk result (λ v. AreRootPowers degree (2 * degree) v.items) }
-{
-    let psi = Modulus::Plain.root(degree);
-    let mut next = 1;
-    let mut all = Vec::new(alloc);
-    for i in 0..2 * degree.get() as usize {
-        all.push(next)?;
-        next = multiply(next, psi, PLAIN_MODULUS);
-    }
-    Ok(all)
-}
-
-/// The value at the power of the root with this exponent.
-fn evaluate(poly: &Poly, exponent: u64, powers: &[u64]) -> u64
-    requires within { exponent < 2 * degree_of poly.now }
-    requires powers { AreRootPowers (degree_of poly.now) (2 * degree_of poly.now) powers.now }
-    ensures { result ≡ residue plain_modulus (value_at (degree_of poly.now) (coefficients poly.now.coeffs) (power_of (pos (root plain_modulus (degree_of poly.now))) exponent)) }
-{
-    let n = poly.degree();
-    let mut sum = 0;
-    for k in 0..n {
-        let place = exponent as usize * k % (2 * n);
-        sum = multiply_add(sum, poly.coeff(k), powers[place], PLAIN_MODULUS);
-    }
-    sum
-}
-
-/// Coefficient k of the polynomial with these slots.
-fn interpolate(values: &[u64], exponents: &[u64], k: usize, powers: &[u64]) -> u64
-    requires degree { IsDegree (length values.now) }
-    requires in_range { k < length values.now }
-    requires exponents { AreExponents (length values.now) (length values.now) exponents.now }
-    requires powers { AreRootPowers (length values.now) (2 * length values.now) powers.now }
-    ensures reduced { result < plain_modulus }
-    ensures value { Congruent plain_modulus (pos result *ℤ pos (length values.now)) (interpolation values.now k) }
-{
-    let n = values.len();
-    let inverse = PLAIN_MODULUS - (PLAIN_MODULUS - 1) / n as u64;
-    let mut sum = 0;
-    for p in 0..n {
-        let place = (2 * n - exponents[p] as usize) * k % (2 * n);
-        sum = multiply_add(sum, values[p], powers[place], PLAIN_MODULUS);
-    }
-    multiply(sum, inverse, PLAIN_MODULUS)
 }
 
 /// The polynomial with these slots, the first row before the second.
@@ -95,13 +135,10 @@ pub fn encode_slots(alloc: Global, degree: Degree, values: &[u64]) -> Result<Pol
     ensures modulus { IfOk result (λ p. p.modulus ≡ Modulus.Plain) }
     ensures slots { IfOk result (λ p. AreSlots p.coeffs values.now) }
 {
-    let _n = degree.get();
-    let exponents = exponents(alloc, values.len())?;
-    let powers = root_powers(alloc, degree)?;
+    let table = SlotTable::new(alloc, degree)?;
+    let mut scratch = Spectrum::zero(alloc, Modulus::Plain, degree)?;
     let mut poly = Poly::zero(alloc, Modulus::Plain, degree)?;
-    for k in 0..values.len() {
-        poly.set(k, interpolate(values, &exponents, k, &powers));
-    }
+    table.encode(values, &mut scratch, &mut poly);
     Ok(poly)
 }
 
@@ -110,11 +147,10 @@ pub fn decode_slots(alloc: Global, poly: &Poly) -> Result<Vec<u64>, AllocError>
     requires { poly.now.modulus ≡ Modulus.Plain }
     ensures { IfOk result (λ v. AreSlots poly.now.coeffs v.items) }
 {
-    let n = poly.degree();
-    let powers = root_powers(alloc, poly.shape())?;
-    let mut slots = Vec::new(alloc);
-    for p in 0..n {
-        slots.push(evaluate(poly, exponent(n, p), &powers))?;
-    }
+    let degree = poly.shape();
+    let table = SlotTable::new(alloc, degree)?;
+    let mut scratch = Spectrum::zero(alloc, Modulus::Plain, degree)?;
+    let mut slots = vec![in alloc; 0; poly.degree()]?;
+    table.decode(poly, &mut scratch, &mut slots);
     Ok(slots)
 }

@@ -1,10 +1,12 @@
-use Rattle.std.proofs.Common.{sym, ap, subst, ◌∙◌}
+use Rattle.std.proofs.Common.{refl, sym, ap, subst, ◌∙◌}
+use Rattle.co_math.specs.Coefficients.{coefficients}
+use Rattle.co_rns.specs.Residue_pairs.{all_composed}
 use Rattle.co_math.specs.Parameters.{first_modulus, second_modulus}
 use Rattle.co_ring.specs.declared.moduli.Modulus.TheVariants.{First, Second}
 use Rattle.co_ring.specs.Spectra.{AreValues}
 use Rattle.co_rns.specs.Spectra.{PairValues}
 use Rattle.co_rns.proofs.Composing.{length-all_composed}
-use Rattle.co_rns.proofs.Wholes.{split_of, combined, constant_agree}
+use Rattle.co_rns.proofs.Wholes.{split_of, combined, constant_agree, parts_pair}
 use Rattle.co_rns.proofs.Spectra_agree.{part_values}
 use Rattle.co_rns.proofs.spectra.from_spectrum.Goals as goal
 
@@ -39,3 +41,20 @@ returns-clause-back c = λ f v.
     (c.inverse.ensures.back f (part_values First t.first.modulus n t.first.degree f f xs (sym c.tables.invariant.first_modulus_is) (sym first_degree) (constant_agree _ f) x))
     (c.inverse-2.ensures.back f (part_values Second t.second.modulus n t.second.degree f f ys (sym c.tables.invariant.second_modulus_is) (sym second_degree) (constant_agree _ f) y))
     f (constant_agree first_modulus f) (constant_agree second_modulus f)
+
+pub returns-clause-values : goal.returns-clause-values
+returns-clause-values c =
+    let t = c.tables.inside in
+    let n = c.args.tables.now in
+    let a = c.inverse.new.into in
+    let b = c.inverse-2.new.into in
+    let pair = parts_pair a b (c.inverse.ensures.modulus ∙ c.tables.invariant.first_modulus_is) (c.inverse-2.ensures.modulus ∙ c.tables.invariant.second_modulus_is)
+        (c.inverse-2.ensures.degree ∙ c.tables.invariant.one_degree ∙ sym c.inverse.ensures.degree) c.degree.ensures.valid c.degree-2.ensures.valid in
+    let s = split_of a b pair refl in
+    let f = coefficients (all_composed a.coeffs b.coeffs) in
+    let x = part_values t.first.modulus First t.first.degree n (coefficients a.coeffs) f c.values.inside.first.values c.tables.invariant.first_modulus_is c.tables.view_is s.first_part c.inverse.ensures.values.values in
+    let y = part_values t.second.modulus Second t.second.degree n (coefficients b.coeffs) f c.values.inside.second.values c.tables.invariant.second_modulus_is (c.tables.invariant.one_degree ∙ c.tables.view_is) s.second_part c.inverse-2.ensures.values.values in
+    record {
+      first_values = subst (AreValues first_modulus n f) (ap (λ (s : PairValues). s.first) c.values.view_is) x;
+      second_values = subst (AreValues second_modulus n f) (ap (λ (s : PairValues). s.second) c.values.view_is) y;
+    }

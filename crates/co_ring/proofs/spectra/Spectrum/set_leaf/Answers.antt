@@ -1,0 +1,32 @@
+use Rattle.std.proofs.Common.{◌≡◌, ◌<◌, ◌^◌, ℕ, List, length, set, refl, sym, ap, subst, ◌∙◌, arith}
+use Rattle.co_math.specs.Exponents.{place}
+use Rattle.co_transform.proofs.Reversals.{place-lt, place-place}
+use Rattle.co_ring.specs.Moduli.{value_of}
+use Rattle.co_ring.specs.Spectra.{Values, in_order, AreLeaves}
+use Rattle.co_ring.proofs.Orderings.{in_order-set, set_leaves, view_length, same_levels}
+use Rattle.co_ring.proofs.spectra.Spectrum.set_leaf.Goals as goal
+
+pub index_mut-requires : goal.index_mut-requires
+index_mut-requires c =
+    let s = c.self.inside in
+    omega (arith, s.leaves.ok.0, c.self.invariant.len, view_length s.levels s.leaves.items c.args.self.now.values (ap (λ (v : Values). v.values) c.self.view_is), c.requires.in_range)
+
+pub invariant_of-self : goal.invariant_of-self
+invariant_of-self c =
+    let s = c.self.inside in
+    let below = subst (λ (v : Values). c.args.value < value_of v.modulus) (sym c.self.view_is) c.requires.reduced in
+    set_leaves s.modulus s.levels c.args.at c.args.value s.leaves.items c.self.invariant below
+
+pub returns : goal.returns
+returns c = λ l size.
+    let s = c.self.inside in
+    let at = c.args.at in
+    let own = ap (λ (v : Values). v.values) c.self.view_is in
+    let own_n = view_length s.levels s.leaves.items c.args.self.now.values own in
+    let levels : s.levels ≡ l = same_levels s.levels l (sym own_n ∙ size) in
+    let within : at < 2 ^ s.levels = omega (arith, c.requires.in_range, own_n) in
+    let moved : in_order s.levels (set s.leaves.items at c.args.value) ≡ set c.args.self.now.values (place l at) c.args.value =
+    ap (λ p. in_order s.levels (set s.leaves.items p c.args.value)) (sym (place-place s.levels at within))
+    ∙ in_order-set s.levels (place s.levels at) c.args.value s.leaves.items c.self.invariant.len (place-lt s.levels at)
+    ∙ (λ i. set (own i) (place (levels i) at) c.args.value) in
+    λ i. record { modulus = (ap (λ (v : Values). v.modulus) c.self.view_is) i; values = moved i }

@@ -1,0 +1,59 @@
+// Sums of products of polynomials modulo q, by their values, that are reduced once.
+
+ghost use Rattle.std.specs.Prelude.{◌≡◌, ◌<◌, length, IfOk};
+ghost use Rattle.co_ring.specs.Product_sums.{most_products};
+ghost use Rattle.co_rns.specs.Spectra.{IsNoPairSum, IsPairSumWith, IsReducedPair, spectrum_degree};
+
+use crate::spectra::PairSpectrum;
+use co_ring::{Degree, Modulus, ProductSum};
+use std::alloc::{AllocError, Global};
+use std::marker::Model;
+
+/// A sum of products of spectra, in 128 bits and not reduced: 32 * n bytes.
+#[derive(Drop)]
+pub struct PairSum {
+    first: ProductSum,
+    second: ProductSum,
+}
+
+impl Model for PairSum {
+    ghost use Rattle.co_rns.specs.Spectra.{IsPairSum, PairSums};
+
+    ghost Value = { PairSums };
+
+    ghost view = { λ s. record { count = s.first.count; first = s.first.values; second = s.second.values } };
+
+    ghost invariant = { λ s. IsPairSum s.first s.second };
+}
+
+impl PairSum {
+    /// The sum of no products.
+    pub fn zero(alloc: Global, degree: Degree) -> Result<PairSum, AllocError>
+        ensures { IfOk result (IsNoPairSum degree) }
+    {
+        Ok(PairSum {
+            first: ProductSum::zero(alloc, Modulus::First, degree)?,
+            second: ProductSum::zero(alloc, Modulus::Second, degree)?,
+        })
+    }
+
+    /// Adds the product with each other of the values of a and of b.
+    pub fn add_product(&mut self, a: &PairSpectrum, b: &PairSpectrum)
+        requires a_degree { spectrum_degree a.now ≡ length self.old.first }
+        requires b_degree { spectrum_degree b.now ≡ length self.old.first }
+        requires room { self.old.count < most_products }
+        ensures { IsPairSumWith self.old a.now b.now self.new }
+    {
+        self.first.add_product(&a.first, &b.first);
+        self.second.add_product(&a.second, &b.second);
+    }
+
+    /// The sums modulo q1 and q2.
+    pub fn reduce(&self, into: &mut PairSpectrum)
+        requires { spectrum_degree into.old ≡ length self.now.first }
+        ensures { IsReducedPair self.now into.new }
+    {
+        self.first.reduce(&mut into.first);
+        self.second.reduce(&mut into.second);
+    }
+}
