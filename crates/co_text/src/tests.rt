@@ -92,7 +92,7 @@ fn keywords(rt: HostRuntime) -> Result<(), Fail> {
     assert_eq!(rt; fault, Some(QueryFault::TooManyKeywords { found: 18 }));
     let query = query_terms(alloc, "SEA sea wind Sea")?;
     assert_eq!(rt; spelled(alloc, &query)?.as_str(), "sea wind ");
-    assert!(rt; query.contains("wind"));
+    
     Ok(())
 }
 
