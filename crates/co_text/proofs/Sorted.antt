@@ -104,6 +104,7 @@ module _ {K : Type 0} (R : K → K → Ordering) (o : IsTotalOrder R) where
           → (q : K) (b : Bool) → eq_by_cmp R q x ≡ b → (b || list_any (eq_by_cmp R q) xs) ≡ true → list_any (eq_by_cmp R q) ys ≡ true
       at all is q true same either = ap (λ u. list_any (eq_by_cmp R u) ys) (exact q x ((Equal-is (R q x)).0 same)) ∙ is
       at all is q false other either = all q either
+
       step : (((q : K) → list_any (eq_by_cmp R q) xs ≡ true → list_any (eq_by_cmp R q) ys ≡ true)
           ⊎ ((w : K) × (list_any (eq_by_cmp R w) xs ≡ true) × (list_any (eq_by_cmp R w) ys ≡ false)))
           → (b : Bool) → list_any (eq_by_cmp R x) ys ≡ b

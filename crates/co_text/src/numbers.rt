@@ -8,6 +8,7 @@ ghost use Rattle.std.specs.Cmp.Lexicographic.{slice_cmp};
 ghost use Rattle.co_text.specs.Numbers.{number_of, numbers_of, unknown_in};
 
 use crate::Terms;
+use co_list::Listed;
 use std::alloc::{AllocError, Global};
 
 /// The number of a term in a vocabulary, which ascends in bytes: its place, from 0. It is found by
@@ -24,12 +25,16 @@ pub fn number_of(vocabulary: &Terms, term: &str) -> Option<usize>
 }
 
 /// The numbers of those terms that are in the vocabulary, in the order of the terms.
-pub fn numbers_of(alloc: Global, vocabulary: &Terms, terms: &Terms) -> Result<Vec<u32>, AllocError>
+pub fn numbers_of(
+    alloc: Global,
+    vocabulary: &Terms,
+    terms: &Terms,
+) -> Result<Listed<u32>, AllocError>
     requires sorted { IsStrictlySortedBy (slice_cmp nat_cmp) vocabulary.now }
     requires few { length vocabulary.now ≤ 2 ^ 32 }
-    ensures { IfOk result (λ numbers. numbers.items ≡ numbers_of vocabulary.now terms.now) }
+    ensures { IfOk result (λ numbers. numbers ≡ numbers_of vocabulary.now terms.now) }
 {
-    let mut numbers = Vec::new(alloc);
+    let mut numbers = Listed::new(alloc);
     for term in terms.as_slice() {
         if let Some(number) = number_of(vocabulary, term.as_str()) {
             numbers.push(number as u32)?;
@@ -39,11 +44,7 @@ pub fn numbers_of(alloc: Global, vocabulary: &Terms, terms: &Terms) -> Result<Ve
 }
 
 /// The terms that are not in the vocabulary, in order.
-pub fn unknown_terms(
-    alloc: Global,
-    vocabulary: &Terms,
-    terms: &Terms,
-) -> Result<Terms, AllocError>
+pub fn unknown_terms(alloc: Global, vocabulary: &Terms, terms: &Terms) -> Result<Terms, AllocError>
     requires { IsStrictlySortedBy (slice_cmp nat_cmp) vocabulary.now }
     ensures { IfOk result (λ unknown. unknown ≡ unknown_in vocabulary.now terms.now) }
 {

@@ -4,6 +4,7 @@ ghost use Rattle.std.specs.BTreeSet.{insert_key};
 ghost use Rattle.co_text.specs.Ranking.{ranking};
 ghost use Rattle.co_text.specs.Keys.{key_cmp, shown};
 
+use co_list::Listed;
 use std::alloc::{AllocError, Global};
 use std::cmp::Reverse;
 use std::collections::BTreeSet;
@@ -19,12 +20,7 @@ pub struct Ranked {
 type Best = BTreeSet<(Reverse<u32>, u32)>;
 
 // One document more, of which so many are kept.
-fn keep_best(
-    best: &mut Best,
-    most: usize,
-    document: u32,
-    score: u32,
-) -> Result<(), AllocError>
+fn keep_best(best: &mut Best, most: usize, document: u32, score: u32) -> Result<(), AllocError>
     requires { length best.old.keys ≤ most }
     ensures keys { OnOk result (best.new.keys ≡ take most (if nat_lt 0 score then insert_key key_cmp best.old.keys (record { 0 = score }, document) else best.old.keys)) }
     ensures few { OnOk result (length best.new.keys ≤ most) }
@@ -40,10 +36,10 @@ fn keep_best(
 }
 
 // The documents with their scores, in the same order.
-fn list_best(alloc: Global, best: &Best) -> Result<Vec<Ranked>, AllocError>
-    ensures { IfOk result (λ hits. hits.items ≡ map shown best.now.keys) }
+fn list_best(alloc: Global, best: &Best) -> Result<Listed<Ranked>, AllocError>
+    ensures { IfOk result (λ hits. hits ≡ map shown best.now.keys) }
 {
-    let mut hits = Vec::with_capacity(alloc, best.len())?;
+    let mut hits = Listed::with_capacity(alloc, best.len())?;
     for (score, document) in best.iter() {
         hits.push(Ranked {
             document: *document,
@@ -55,9 +51,9 @@ fn list_best(alloc: Global, best: &Best) -> Result<Vec<Ranked>, AllocError>
 
 /// The documents of score at least 1, by score downwards and then by number, the first so many. The
 /// score of a document stands at its number.
-pub fn ranking(alloc: Global, scores: &[u32], most: u32) -> Result<Vec<Ranked>, AllocError>
+pub fn ranking(alloc: Global, scores: &[u32], most: u32) -> Result<Listed<Ranked>, AllocError>
     requires { length scores.now ≤ 2 ^ 32 }
-    ensures { IfOk result (λ hits. hits.items ≡ ranking most scores.now) }
+    ensures { IfOk result (λ hits. hits ≡ ranking most scores.now) }
 {
     let mut best = BTreeSet::new(alloc);
     for (number, score) in scores.iter().enumerate() {

@@ -7,4 +7,4 @@ use Rattle.co_text.proofs.ranks.list_best.Given as goal
 abbrev pub invariant-loop-score : goal.invariant-loop-score
 invariant-loop-score l =
     (goal.iterator-loop-score).can_next l.score-iterator × (goal.iterator-loop-score).is_finite l.score-iterator
-    × (l.hits.items ++ map shown l.score-iterator ≡ map shown l.best.keys)
+    × (l.hits ++ map shown l.score-iterator ≡ map shown l.best.keys)

@@ -19,7 +19,7 @@ loop-number-preserved c =
     let keys = c.loop-number.best.keys in
     let left : drop number scores ≡ get_or scores number 0 ∷ drop (number + 1) scores = drop_more scores number 0 c.loop-number-test.true in (
       kept_more c.args.most number (get_or scores number 0) keys c.keep_best.new.best.keys (drop (number + 1) scores) c.in_ok-keep_best.ensures.keys
-      ∙ ap (λ (ss : List ℕ). take c.args.most (fold (insert_key hit_cmp) (map shown keys) (scored number ss))) (sym left)
-      ∙ c.loop-number.invariant.0,
+          ∙ ap (λ (ss : List ℕ). take c.args.most (fold (insert_key hit_cmp) (map shown keys) (scored number ss))) (sym left)
+          ∙ c.loop-number.invariant.0,
       c.in_ok-keep_best.ensures.few,
     )
