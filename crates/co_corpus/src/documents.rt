@@ -3,14 +3,9 @@ ghost use Rattle.std.specs.Prelude.{◌≡◌};
 ghost use Rattle.co_corpus.specs.Documents.{IsCorpus};
 
 use co_link::Bytes;
+use co_list::Listed;
 use co_text::Title;
 use std::marker::Model;
-
-/// The most documents of a corpus.
-pub const MAX_DOCUMENTS: usize = 65_536;
-
-/// The most bytes of a document's text.
-pub const MAX_TEXT: usize = 4_194_304;
 
 /// A title, as its type keeps it, and a text.
 #[derive(Debug, Drop)]
@@ -19,10 +14,14 @@ pub struct Document {
     pub text: Bytes,
 }
 
-/// 1 to 65,536 documents, each text UTF-8 of at most 4,194,304 bytes. A document's number is its place, from 0.
+/// Documents in a row.
+pub type Documents = Listed<Document>;
+
+/// 1 to 65,536 documents, each text UTF-8 of at most 4,194,304 bytes. A document's number is its
+/// place, from 0.
 #[derive(Debug, Drop)]
 pub struct Corpus {
-    inner: Vec<Document>,
+    inner: Documents,
 }
 
 impl Model for Corpus {
@@ -32,16 +31,16 @@ impl Model for Corpus {
 
     ghost Value = { List Document };
 
-    ghost view = { λ c. c.inner.items };
+    ghost view = { λ c. c.inner };
 
-    ghost invariant = { λ c. IsCorpus c.inner.items };
+    ghost invariant = { λ c. IsCorpus c.inner };
 }
 
 impl Corpus {
     /// The corpus of these documents, with no copy.
-    pub fn new(documents: Vec<Document>) -> Self
-        requires { IsCorpus documents.items }
-        ensures { result ≡ documents.items }
+    pub fn new(documents: Documents) -> Self
+        requires { IsCorpus documents }
+        ensures { result ≡ documents }
     {
         Corpus { inner: documents }
     }

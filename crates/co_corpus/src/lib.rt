@@ -12,7 +12,7 @@ mod documents;
 mod lines;
 mod reading;
 
-pub use documents::{Corpus, Document, MAX_DOCUMENTS, MAX_TEXT};
+pub use documents::{Corpus, Document, Documents};
 pub use reading::{CorpusFault, read_corpus};
 
 #[cfg(test)]

@@ -1,14 +1,15 @@
 // From the bytes of a file to its documents.
-ghost use Rattle.std.specs.Prelude.{◌≡◌, ◌≤◌, length, codes, All, IfOk};
+ghost use Rattle.std.specs.Prelude.{◌≡◌, ◌≤◌, length, codes, string_bytes, option_map, option_and_then, All, IfOk};
 ghost use Rattle.co_corpus.specs.Documents.{IsDocument};
 ghost use Rattle.serde_json.specs.View.{view};
-ghost use Rattle.serde_json.specs.Find.{get};
+ghost use Rattle.serde_json.specs.Find.{get, as_str};
+ghost use Rattle.co_corpus.specs.declared.reading.CorpusFault.TheVariants.{OutOfMemory};
 ghost use Rattle.co_corpus.specs.Reading.{title_in, of_data, document_of, add_line, corpus_of, IsAnswer};
 
 use crate::lines::{cut_line, is_blank, without_mark};
-use crate::{Corpus, Document, MAX_DOCUMENTS, MAX_TEXT};
+use crate::{Corpus, Document, Documents};
 use co_link::Bytes;
-use co_text::Title;
+use co_text::{MAX_DOCUMENTS, MAX_TEXT, Title};
 use serde_json::Value;
 use std::alloc::{AllocError, Global};
 use thiserror::Error;
@@ -35,6 +36,14 @@ pub enum CorpusFault {
     OutOfMemory,
 }
 
+impl From<AllocError> for CorpusFault {
+    ghost from_gives = { λ _ e. e ≡ OutOfMemory };
+
+    fn from(_e: AllocError) -> CorpusFault {
+        CorpusFault::OutOfMemory
+    }
+}
+
 // The title of an object, if it has one that is text.
 fn read_title(alloc: Global, value: &Value) -> Result<Option<Title>, AllocError>
     ensures { IfOk result (λ title. title ≡ title_in (get (codes "title") (view value.now))) }
@@ -47,38 +56,50 @@ fn read_title(alloc: Global, value: &Value) -> Result<Option<Title>, AllocError>
     }
 }
 
-// The document of a value. Its text is copied once.
-fn read_value(alloc: Global, line: u64, value: &Value) -> Result<Document, CorpusFault>
-    ensures value { IsAnswer (λ d. d) (of_data line (view value.now)) result }
+// The text of an object, if it has one, taken out of it with no copy.
+fn take_text(value: &mut Value) -> Option<String>
+    ensures { option_map string_bytes result ≡ option_and_then as_str (get (codes "text") (view value.old)) }
+{
+    match value.get_mut("text") {
+        None => None,
+        Some(text) => match text.take() {
+            Value::String(text) => Some(text),
+            _ => None,
+        },
+    }
+}
+
+// The document of a value.
+fn read_value(alloc: Global, line: u64, mut value: Value) -> Result<Document, CorpusFault>
+    ensures value { IsAnswer (λ d. d) (of_data line (view value)) result }
     ensures document { IfOk result (λ d. IsDocument d) }
 {
     if !value.is_object() {
         return Err(CorpusFault::NotObject { line });
     }
-    let Some(text) = value.get("text").and_then(Value::as_str) else {
+    let title = read_title(alloc, &value)?;
+    let Some(text) = take_text(&mut value) else {
         return Err(CorpusFault::NoText { line });
     };
-    let title = match read_title(alloc, value) {
-        Ok(Some(title)) => title,
-        Ok(None) => return Err(CorpusFault::TitleNotText { line }),
-        Err(_) => return Err(CorpusFault::OutOfMemory),
+    let Some(title) = title else {
+        return Err(CorpusFault::TitleNotText { line });
     };
     if text.len() > MAX_TEXT {
         return Err(CorpusFault::TextTooLong { line });
     }
-    match Bytes::copy_of(alloc, text.as_bytes()) {
-        Ok(text) => Ok(Document { title, text }),
-        Err(_) => Err(CorpusFault::OutOfMemory),
-    }
+    Ok(Document {
+        title,
+        text: Bytes::from_vec(text.into_bytes()),
+    })
 }
 
-// The document of a line. The line's value is gone when it is made.
+// The document of a line.
 fn read_line(alloc: Global, line: u64, bytes: &[u8]) -> Result<Document, CorpusFault>
     ensures value { IsAnswer (λ d. d) (document_of line bytes.now) result }
     ensures document { IfOk result (λ d. IsDocument d) }
 {
     match Value::from_slice(alloc, bytes) {
-        Ok(value) => read_value(alloc, line, &value),
+        Ok(value) => read_value(alloc, line, value),
         Err(e) => {
             if e.is_memory() {
                 Err(CorpusFault::OutOfMemory)
@@ -94,26 +115,21 @@ fn add_line(
     alloc: Global,
     line: u64,
     bytes: &[u8],
-    documents: &mut Vec<Document>,
+    documents: &mut Documents,
 ) -> Result<(), CorpusFault>
-    ensures value { IsAnswer (λ _. documents.new.items) (add_line line documents.old.items bytes.now) result }
-    ensures many { length documents.old.items ≤ 65536 → length documents.new.items ≤ 65536 }
-    ensures each { All IsDocument documents.old.items → All IsDocument documents.new.items }
+    ensures value { IsAnswer (λ _. documents.new) (add_line line documents.old bytes.now) result }
+    ensures many { length documents.old ≤ 65536 → length documents.new ≤ 65536 }
+    ensures each { All IsDocument documents.old → All IsDocument documents.new }
 {
     if is_blank(bytes) {
         return Ok(());
     }
-    let document = match read_line(alloc, line, bytes) {
-        Ok(document) => document,
-        Err(e) => return Err(e),
-    };
+    let document = read_line(alloc, line, bytes)?;
     if documents.len() >= MAX_DOCUMENTS {
         return Err(CorpusFault::TooMany { line });
     }
-    match documents.push(document) {
-        Ok(()) => Ok(()),
-        Err(_) => Err(CorpusFault::OutOfMemory),
-    }
+    documents.push(document)?;
+    Ok(())
 }
 
 /// The documents of a corpus file, or its first fault. A byte order mark at the front is skipped, and so are lines
@@ -122,15 +138,12 @@ fn add_line(
 pub fn read_corpus(alloc: Global, bytes: &[u8]) -> Result<Corpus, CorpusFault>
     ensures { IsAnswer (λ c. c) (corpus_of bytes.now) result }
 {
-    let mut documents = Vec::new(alloc);
+    let mut documents = Documents::new(alloc);
     let mut rest = Some(without_mark(bytes));
     let mut line = 1u64;
     while let Some(left) = rest {
         let (first, after) = cut_line(left);
-        match add_line(alloc, line, first, &mut documents) {
-            Ok(()) => {}
-            Err(e) => return Err(e),
-        }
+        add_line(alloc, line, first, &mut documents)?;
         line += 1;
         rest = after;
     }

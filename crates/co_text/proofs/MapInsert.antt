@@ -4,7 +4,7 @@ use Rattle.std.specs.Prelude.{map, fold}
 use Rattle.std.specs.BTreeSet.{insert_key}
 use Rattle.std.specs.Ordering.{match_ordering}
 use Rattle.std.specs.declared.cmp.Ordering.{Ordering}
-use Rattle.co_tfidf.specs.Order.{in_order}
+use Rattle.co_text.specs.Order.{in_order}
 use Rattle.std.specs.declared.cmp.Ordering.TheVariants.{Less, Equal, Greater}
 
 module _ {K L : Type 0} (R : K → K → Ordering) (S : L → L → Ordering) (f : K → L) where
