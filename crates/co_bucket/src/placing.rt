@@ -52,10 +52,11 @@ impl Placement {
 /// Why items are not placed.
 #[derive(Debug, Drop, Error)]
 pub enum PlaceFault {
-    /// The witness that there is no assignment: items and buckets, ascending, one bucket fewer than items.
+    /// The witness that there is no assignment: items and buckets, ascending, one bucket fewer than
+    /// items.
     ///
-    /// In the shortest prefix without an assignment the items are those without any one of which that prefix
-    /// has one; the buckets are all their candidates.
+    /// In the shortest prefix without an assignment the items are those without any one of which
+    /// that prefix has one; the buckets are all their candidates.
     #[error("no placement")]
     NoPlacement { items: Numbers, buckets: Numbers },
     #[error("out of memory")]
@@ -105,7 +106,8 @@ fn assign(alloc: Global, candidates: &[[u32; 3]]) -> Result<Choices, PlaceFault>
     Ok(choices)
 }
 
-/// Moves the item to `bucket`, one of its candidates `row`, where that is lower and the others can follow.
+/// Moves the item to `bucket`, one of its candidates `row`, where that is lower and the others can
+/// follow.
 fn prefer(
     alloc: Global,
     narrowed: &mut [[u32; 3]],
@@ -133,7 +135,8 @@ fn prefer(
     Ok(choices)
 }
 
-/// Gives the item the lowest bucket that leaves the others an assignment, and leaves it no other candidate.
+/// Gives the item the lowest bucket that leaves the others an assignment, and leaves it no other
+/// candidate.
 fn lower(
     alloc: Global,
     narrowed: &mut [[u32; 3]],
@@ -157,7 +160,8 @@ fn lower(
     Ok(choices)
 }
 
-/// The least assignment, from any. Each item in turn keeps in `narrowed` the one bucket that it got.
+/// The least assignment, from any. Each item in turn keeps in `narrowed` the one bucket that it
+/// got.
 fn lower_all(
     alloc: Global,
     candidates: &[[u32; 3]],
