@@ -9,9 +9,13 @@
 #![tactic(auto)]
 
 mod bounds;
+mod limits;
 mod shape;
 mod testing;
 
 pub use bounds::{fresh_bound, modulus, retrieve_bound, score_bound, switch_bound};
+pub use limits::{
+    MOST_BIN_BYTES, MOST_BINS, MOST_CHUNKS, MOST_DEGREE, MOST_DOCUMENTS, MOST_HITS, MOST_ROWS, MOST_TERMS,
+};
 pub use shape::{Shape, is_chunk_count, is_degree, log2_up};
 pub use testing::{TestFault, Tested, test};

@@ -4,6 +4,9 @@ ghost use Rattle.std.specs.Prelude.{◌≡◌, ◌≤◌, ◌<◌, ◌^◌, IsTr
 ghost use Rattle.co_noise.specs.Shapes.{numbers, are_in_range, HasRanges, shape_of, keyword_blocks, document_blocks, levels};
 ghost use Rattle.co_noise.specs.Shapes as shapes;
 
+use crate::limits::{
+    MOST_BIN_BYTES, MOST_BINS, MOST_CHUNKS, MOST_DOCUMENTS, MOST_HITS, MOST_ROWS, MOST_TERMS,
+};
 use std::marker::Model;
 
 /// The eight numbers that a library publishes, each in its range.
@@ -43,7 +46,7 @@ pub fn is_degree(n: u32) -> bool
 pub fn is_chunk_count(degree: u32, chunks: u32) -> bool
     ensures { result ≡ shapes.is_chunk_count degree chunks }
 {
-    is_within(1, 131_072, chunks) && chunks as u64 * (2 * degree as u64) <= 4_194_304
+    is_within(1, MOST_CHUNKS, chunks) && chunks as u64 * (2 * degree as u64) <= MOST_BIN_BYTES as u64
 }
 
 fn is_within(low: u32, high: u32, n: u32) -> bool
@@ -90,12 +93,12 @@ impl Shape {
         ensures { result ≡ shape_of (numbers degree documents terms hits salt rows bins chunks) }
     {
         let good = is_degree(degree)
-            && is_within(1, 65_536, documents)
-            && is_within(0, 131_072, terms)
-            && is_within(1, 64, hits)
+            && is_within(1, MOST_DOCUMENTS, documents)
+            && is_within(0, MOST_TERMS, terms)
+            && is_within(1, MOST_HITS, hits)
             && is_within(0, u32::MAX, salt)
-            && is_within(1, 65_536, rows)
-            && is_within(1, 65_536, bins)
+            && is_within(1, MOST_ROWS, rows)
+            && is_within(1, MOST_BINS, bins)
             && is_chunk_count(degree, chunks);
         if !good {
             return None;
@@ -122,6 +125,7 @@ impl Shape {
         self.degree
     }
 
+    /// How many documents the library has.
     pub fn documents(&self) -> u32
         ensures { result ≡ self.now.documents }
     {
@@ -156,6 +160,7 @@ impl Shape {
         self.rows
     }
 
+    /// How many bins hold the texts.
     pub fn bins(&self) -> u32
         ensures { result ≡ self.now.bins }
     {

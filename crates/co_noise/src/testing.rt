@@ -44,6 +44,7 @@ impl Model for Tested {
 }
 
 impl Tested {
+    /// The shape that passed.
     pub fn shape(&self) -> &Shape
         ensures value { result.now ≡ self.now }
         ensures passes { test_of self.now ≡ Ok self.now }
