@@ -13,15 +13,13 @@
 mod finding;
 pub mod laws;
 mod listing;
-mod numbers;
 mod placing;
 mod rows;
 #[cfg(test)]
 mod tests;
 
 pub use listing::{Lists, bucket_lists, buckets, candidates};
-pub use numbers::Numbers;
-pub use placing::{PlaceFault, Placement, place};
+pub use placing::{Numbers, PlaceFault, Placement, place};
 pub use rows::{greatest, record_rows, rows_needed};
 
 /// The most items that are placed, which is the most hits of a search.

@@ -7,47 +7,15 @@ ghost use Rattle.co_bucket.specs.Refusal.{Refuses};
 
 use crate::MOST_ITEMS;
 use crate::finding::{Choices, Found, search};
-use crate::numbers::Numbers;
+use co_list::Listed;
 use std::alloc::{AllocError, Global};
-use std::marker::Model;
 use thiserror::Error;
 
 /// Bucket by bucket, the position of the item that is placed there.
-#[derive(Debug, Drop)]
-pub struct Placement {
-    items: Vec<Option<u32>>,
-}
+pub type Placement = Listed<Option<u32>>;
 
-impl Model for Placement {
-    ghost use Rattle.std.specs.Prelude.{List, Option, ℕ};
-
-    ghost Value = { List (Option ℕ) };
-
-    ghost view = { λ p. p.items.items };
-}
-
-impl Placement {
-    /// The placement of a vector, with no copy.
-    pub fn from_vec(items: Vec<Option<u32>>) -> Self
-        ensures { result ≡ items.items }
-    {
-        Placement { items }
-    }
-
-    /// The vector, with no copy.
-    pub fn into_vec(self) -> Vec<Option<u32>>
-        ensures { result.items ≡ self }
-    {
-        self.items
-    }
-
-    /// The positions as a slice, by bucket.
-    pub fn as_slice(&self) -> &[Option<u32>]
-        ensures { result.now ≡ self.now }
-    {
-        self.items.as_slice()
-    }
-}
+/// Numbers of items or of buckets, in order.
+pub type Numbers = Listed<u32>;
 
 /// Why items are not placed.
 #[derive(Debug, Drop, Error)]

@@ -11,9 +11,9 @@ ghost use Rattle.std.specs.List.Sorted.{IsPermutation, IsSorted};
 ghost use Rattle.co_pack.specs.Packing.{IsBinSize, load, IsNext, IsFirstFit, IsPacked, IsBinCount, IsEarlier, key_cmp, no_place};
 ghost use Rattle.co_pack.specs.Rooms.{IsTopped, IsRoom, IsOpened};
 
+use co_list::Listed;
 use std::alloc::{AllocError, Global};
 use std::cmp::Reverse;
-use std::marker::Model;
 
 /// The most documents that are packed.
 pub const MOST_DOCUMENTS: usize = 65_536;
@@ -39,42 +39,7 @@ pub struct Place {
 }
 
 /// Document by document, where its text stands.
-#[derive(Debug, Drop)]
-pub struct Places {
-    items: Vec<Place>,
-}
-
-impl Model for Places {
-    ghost use Rattle.std.specs.Prelude.{List};
-    ghost use Rattle.co_pack.specs.declared.packing.Place.{Place};
-
-    ghost Value = { List Place };
-
-    ghost view = { λ p. p.items.items };
-}
-
-impl Places {
-    /// The places of a vector, with no copy.
-    pub fn from_vec(items: Vec<Place>) -> Self
-        ensures { result ≡ items.items }
-    {
-        Places { items }
-    }
-
-    /// The vector, with no copy.
-    pub fn into_vec(self) -> Vec<Place>
-        ensures { result.items ≡ self }
-    {
-        self.items
-    }
-
-    /// The places as a slice, by document.
-    pub fn as_slice(&self) -> &[Place]
-        ensures { result.now ≡ self.now }
-    {
-        self.items.as_slice()
-    }
-}
+pub type Places = Listed<Place>;
 
 /// The bytes of a bin: the least multiple of `2 * degree` that holds the longest text, and at least
 /// `chunks` pieces of `2 * degree` bytes.

@@ -7,12 +7,12 @@ use Rattle.co_pack.proofs.records.read_record.Goals as goal
 
 pub returns-in_err-title-clause-only : goal.returns-in_err-title-clause-only
 returns-in_err-title-clause-only c =
-    let p = err_from_is_err_and c.from_residual-in_err-title.result c.from_residual-in_err-title.ensures.1 in
+    let p = err_from_is_err_and c.from_residual.result c.from_residual.ensures.1 in
     rw (p.1, p.2) (not_refused c.args.bytes.now c.in_err-title.field-0.0 c.in_err-title.ensures)
 
 pub returns-in_err-title-clause-exact : goal.returns-in_err-title-clause-exact
 returns-in_err-title-clause-exact c =
-    let p = err_from_is_err_and c.from_residual-in_err-title.result c.from_residual-in_err-title.ensures.1 in
+    let p = err_from_is_err_and c.from_residual.result c.from_residual.ensures.1 in
     rw (p.1, p.2) (refused c.args.bytes.now c.in_err-title.field-0.0 c.in_err-title.ensures)
 
 pub returns-clause-found : goal.returns-clause-found
