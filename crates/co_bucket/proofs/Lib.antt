@@ -6,3 +6,5 @@ pub mod Lowering
 pub mod Narrowing
 pub mod Stepping
 pub mod Counting
+pub mod OneAnswer
+pub mod Standing

@@ -1,7 +1,7 @@
 //! Finds a bucket for an item that has none, by moving others, or tells why there is none.
 //!
-//! The search goes breadth first over the items that can be left without a bucket in its stead. For each of
-//! them it keeps the whole assignment of the others, so that no path is ever walked back.
+//! The search goes breadth first over the items that can be left without a bucket in its stead. For
+//! each of them it keeps the whole assignment of the others, so that no path is ever walked back.
 
 ghost use Rattle.std.specs.Prelude.{◌≡◌, ◌≢◌, ◌+◌, ◌<◌, ◌≤◌, ℕ, List, [], length, slice_index, slice_index_or, IfOk, IfSome, MatchOption};
 ghost use Rattle.std.specs.List.{Contains};
@@ -30,8 +30,8 @@ fn owner(choices: &Choices, count: usize, hole: usize, bucket: u32) -> Option<us
     None
 }
 
-/// Items that can be left without a bucket, in the order in which they were found, and the bucket that each
-/// but the first gave up; beside each item, the choices of all the others.
+/// Items that can be left without a bucket, in the order in which they were found, and the bucket
+/// that each but the first gave up; beside each item, the choices of all the others.
 #[derive(Drop)]
 pub(crate) struct Reached {
     pub(crate) items: Vec<u32>,
@@ -39,7 +39,8 @@ pub(crate) struct Reached {
     pub(crate) shifted: Vec<Choices>,
 }
 
-/// Gives the bucket, a candidate, to the item reached at `at`: all are placed then, or its owner is reached.
+/// Gives the bucket, a candidate, to the item reached at `at`: all are placed then, or its owner is
+/// reached.
 fn reach(
     candidates: &[[u32; 3]],
     choices: &Choices,
@@ -97,7 +98,8 @@ fn explore(
     Ok(None)
 }
 
-/// What a search ends with: choices of all the items, or the items and buckets that were reached in vain.
+/// What a search ends with: choices of all the items, or the items and buckets that were reached in
+/// vain.
 #[derive(Drop)]
 pub(crate) enum Found {
     Placed(Choices),

@@ -1,25 +1,26 @@
-//! Buckets and placement: which buckets may hold a document's record, and which bucket each hit asks.
+//! Buckets and placement: which buckets may hold a document's record, and which bucket each hit
+//! asks.
 //!
-//! The records of all documents are listed in buckets, so that a reader gets the records of all its hits
-//! by asking each bucket once. A salted hash gives each document three candidate buckets; the document is
-//! listed in each of them. The reader puts its hits into buckets, one a bucket: `place`.
-//! Model: `Lists` is the list of the buckets' lists; a placement is the least assignment of candidates to
-//! items, a relation over lists of choices, and its refusal a witness: one bucket fewer than items.
-//! Not here: what a record holds (co_pack), the bytes of the rows (co_library), which documents are hits.
+//! The records of all documents are listed in buckets, so that a reader gets the records of all its
+//! hits by asking each bucket once. A salted hash gives each document three candidate buckets; the
+//! document is listed in each of them. The reader puts its hits into buckets, one a bucket:
+//! `place`. Model: `Lists` is the list of the buckets' lists; a placement is the least assignment
+//! of candidates to items, a relation over lists of choices, and its refusal a witness: one bucket
+//! fewer than items. The bytes of a bucket are a definition, with the place of each record
+//! (`laws`). Not here: what a record holds (co_pack), who reads the rows, which documents are hits.
 #![tactic(auto)]
 
 mod finding;
+pub mod laws;
 mod listing;
-mod numbers;
 mod placing;
 mod rows;
 #[cfg(test)]
 mod tests;
 
 pub use listing::{Lists, bucket_lists, buckets, candidates};
-pub use numbers::Numbers;
-pub use placing::{PlaceFault, Placement, place};
-pub use rows::{record_rows, rows_needed};
+pub use placing::{Numbers, PlaceFault, Placement, place};
+pub use rows::{greatest, record_rows, rows_needed};
 
 /// The most items that are placed, which is the most hits of a search.
 pub const MOST_ITEMS: usize = 64;

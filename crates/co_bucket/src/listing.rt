@@ -40,7 +40,8 @@ fn word_at(hash: &[u8; 32], at: usize) -> u64
     u64::from_be_bytes(bytes)
 }
 
-/// The three buckets in which a document may stand, numbers below `buckets`; two of them may be the same.
+/// The three buckets in which a document may stand, numbers below `buckets`; two of them may be the
+/// same.
 #[tactic(auto, unfolding(crate::specs::Lists::candidates_of))]
 pub fn candidates(salt: u32, buckets: u32, document: u32) -> [u32; 3]
     requires { 0 < buckets }

@@ -7,55 +7,24 @@ ghost use Rattle.co_bucket.specs.Refusal.{Refuses};
 
 use crate::MOST_ITEMS;
 use crate::finding::{Choices, Found, search};
-use crate::numbers::Numbers;
+use co_list::Listed;
 use std::alloc::{AllocError, Global};
-use std::marker::Model;
 use thiserror::Error;
 
 /// Bucket by bucket, the position of the item that is placed there.
-#[derive(Debug, Drop)]
-pub struct Placement {
-    items: Vec<Option<u32>>,
-}
+pub type Placement = Listed<Option<u32>>;
 
-impl Model for Placement {
-    ghost use Rattle.std.specs.Prelude.{List, Option, ℕ};
-
-    ghost Value = { List (Option ℕ) };
-
-    ghost view = { λ p. p.items.items };
-}
-
-impl Placement {
-    /// The placement of a vector, with no copy.
-    pub fn from_vec(items: Vec<Option<u32>>) -> Self
-        ensures { result ≡ items.items }
-    {
-        Placement { items }
-    }
-
-    /// The vector, with no copy.
-    pub fn into_vec(self) -> Vec<Option<u32>>
-        ensures { result.items ≡ self }
-    {
-        self.items
-    }
-
-    /// The positions as a slice, by bucket.
-    pub fn as_slice(&self) -> &[Option<u32>]
-        ensures { result.now ≡ self.now }
-    {
-        self.items.as_slice()
-    }
-}
+/// Numbers of items or of buckets, in order.
+pub type Numbers = Listed<u32>;
 
 /// Why items are not placed.
 #[derive(Debug, Drop, Error)]
 pub enum PlaceFault {
-    /// The witness that there is no assignment: items and buckets, ascending, one bucket fewer than items.
+    /// The witness that there is no assignment: items and buckets, ascending, one bucket fewer than
+    /// items.
     ///
-    /// In the shortest prefix without an assignment the items are those without any one of which that prefix
-    /// has one; the buckets are all their candidates.
+    /// In the shortest prefix without an assignment the items are those without any one of which
+    /// that prefix has one; the buckets are all their candidates.
     #[error("no placement")]
     NoPlacement { items: Numbers, buckets: Numbers },
     #[error("out of memory")]
@@ -105,7 +74,8 @@ fn assign(alloc: Global, candidates: &[[u32; 3]]) -> Result<Choices, PlaceFault>
     Ok(choices)
 }
 
-/// Moves the item to `bucket`, one of its candidates `row`, where that is lower and the others can follow.
+/// Moves the item to `bucket`, one of its candidates `row`, where that is lower and the others can
+/// follow.
 fn prefer(
     alloc: Global,
     narrowed: &mut [[u32; 3]],
@@ -133,7 +103,8 @@ fn prefer(
     Ok(choices)
 }
 
-/// Gives the item the lowest bucket that leaves the others an assignment, and leaves it no other candidate.
+/// Gives the item the lowest bucket that leaves the others an assignment, and leaves it no other
+/// candidate.
 fn lower(
     alloc: Global,
     narrowed: &mut [[u32; 3]],
@@ -157,7 +128,8 @@ fn lower(
     Ok(choices)
 }
 
-/// The least assignment, from any. Each item in turn keeps in `narrowed` the one bucket that it got.
+/// The least assignment, from any. Each item in turn keeps in `narrowed` the one bucket that it
+/// got.
 fn lower_all(
     alloc: Global,
     candidates: &[[u32; 3]],

@@ -3,7 +3,7 @@
 ghost use Rattle.std.specs.Prelude.{◌≡◌, ◌+◌, ◌<◌, ◌≤◌, ◌^◌, ℕ, List, [], length, take, map, max, false, slice_index, slice_set, if◌then◌else◌};
 ghost use Rattle.std.specs.List.{All, fold};
 ghost use Rattle.std.specs.Int.{div_ceil};
-ghost use Rattle.co_bucket.specs.Lists.{is_in, lists_of};
+ghost use Rattle.co_bucket.specs.Lists.{bucket_count, is_in, lists_of};
 ghost use Rattle.co_bucket.specs.Rows.{records_a_row, longest, row_count, rows_of, IsRowCount};
 ghost use Rattle.co_bucket.specs.Filling.{contents, AreShort, IsStepped, IsCounted};
 
@@ -28,18 +28,22 @@ pub fn record_rows(lists: &Lists, degree: u32) -> u32
 pub fn rows_needed(degree: u32, documents: u32, hits: u32, salt: u32) -> u32
     requires some { 1 ≤ hits }
     requires few { hits ≤ MOST_ITEMS }
-    ensures { result ≡ rows_of degree documents hits salt }
+    ensures value { result ≡ rows_of degree documents hits salt }
+    ensures least { IsRowCount (lists_of salt (bucket_count hits) documents) (records_a_row degree) result }
 {
     let buckets = buckets(hits);
     let counts = list_lengths(salt, buckets, documents);
     rows_for(greatest(&counts[..buckets as usize]), degree)
 }
 
+/// The coefficients that hold a record of 256 bytes, two bytes each.
+const RECORD_COEFFICIENTS: u32 = 128;
+
 /// How many rows hold the longest list.
 fn rows_for(longest: u32, degree: u32) -> u32
     ensures { result ≡ max 1 (div_ceil longest (records_a_row degree)) }
 {
-    1u32.max(longest.div_ceil(1u32.max(degree / 128)))
+    1u32.max(longest.div_ceil(1u32.max(degree / RECORD_COEFFICIENTS)))
 }
 
 /// The length of the longest list.
@@ -54,8 +58,8 @@ fn longest_length(lists: &[Vec<u32>]) -> u32
     most
 }
 
-/// The greatest of some numbers.
-fn greatest(numbers: &[u32]) -> u32
+/// The greatest of some numbers, 0 where there is none.
+pub fn greatest(numbers: &[u32]) -> u32
     ensures { result ≡ fold max 0 numbers.now }
 {
     let mut most = 0;

@@ -21,9 +21,13 @@ pub record IsNext (size : ℕ) (earlier : List Place) (p : Place) : Type 0 where
 abbrev pub no_place : Place
 no_place = record { bin = 0; offset = 0; length = 0 }
 
+-- the place of a document
+abbrev pub place_at : List Place → ℕ → Place
+place_at places i = slice_index_or places i no_place
+
 -- each document in turn stands in the first bin that has room beside those before it
 abbrev pub IsFirstFit : ℕ → List Place → Type 0
-IsFirstFit size places = (s : ℕ) → s < length places → IsNext size (take s places) (slice_index_or places s no_place)
+IsFirstFit size places = (s : ℕ) → s < length places → IsNext size (take s places) (place_at places s)
 
 -- the document i is packed before j: it is longer, or as long and has the lower number
 abbrev pub IsEarlier : List ℕ → ℕ → ℕ → Type 0
@@ -32,17 +36,17 @@ IsEarlier lengths i j = (slice_index lengths j < slice_index lengths i) ⊎ ((sl
 -- how many bins the places need, at least one
 pub record IsBinCount (places : List Place) (bins : ℕ) : Type 0 where
   pub some : 1 ≤ bins
-  pub within : (i : ℕ) → i < length places → (slice_index_or places i no_place).bin < bins
-  pub last : (i : ℕ) × (i < length places) × ((slice_index_or places i no_place).bin + 1 ≡ bins)
+  pub within : (i : ℕ) → i < length places → (place_at places i).bin < bins
+  pub last : (i : ℕ) × (i < length places) × ((place_at places i).bin + 1 ≡ bins)
 
 -- the documents in the order of packing stand each in the first bin that fits
 pub record IsPacked (lengths : List ℕ) (size : ℕ) (places : List Place) (bins : ℕ) : Type 0 where
   pub many : length places ≡ length lengths
-  pub lengths_are : (i : ℕ) → i < length lengths → (slice_index_or places i no_place).length ≡ slice_index lengths i
+  pub lengths_are : (i : ℕ) → i < length lengths → (place_at places i).length ≡ slice_index lengths i
   pub order : List ℕ
   pub permutes : IsPermutation (range_with_len 0 (length lengths)) order
   pub in_order : (s t : ℕ) → s < t → t < length order → IsEarlier lengths (slice_index order s) (slice_index order t)
-  pub first_fit : IsFirstFit size (map (λ i. slice_index_or places i no_place) order)
+  pub first_fit : IsFirstFit size (map (λ i. place_at places i) order)
   pub count : IsBinCount places bins
 
 -- the order of packing, on lengths with their documents

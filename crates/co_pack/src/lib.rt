@@ -3,11 +3,13 @@
 //! Texts of many lengths are put into bins of one size, so that every text is fetched in the same way.
 //! Each document has a record of 256 bytes: its number, its place in the bins, and its title.
 //! Model: places are the list that first fit by decreasing length gives, stated over the documents in
-//! that order; a record has one spelling, and a second function from bytes to the record or the first fault.
-//! Not here: which records a bucket lists (co_bucket), the bytes of the bins (co_library), whether a
-//! place lies in the bins of a library (its reader).
+//! that order; a record has one spelling, and a second function from bytes to the record or the first
+//! fault. Places lie in their bins, and apart (`laws`).
+//! Not here: which records a bucket lists (co_bucket), the bytes of the bins (co_library), whether
+//! the place of a record that was read lies in the bins (its reader).
 #![tactic(auto)]
 
+pub mod laws;
 mod packing;
 mod records;
 #[cfg(test)]

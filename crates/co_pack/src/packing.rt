@@ -1,9 +1,9 @@
 //! Puts documents into bins, the longest first, each into the first bin with room (first fit decreasing).
 //!
-//! The bins stand in blocks of 256, each with a bound on the room of its bins. A block is scanned only where its bound
-//! allows the document, and a scan in vain makes the bound exact; so a block is scanned in vain at most once for each
-//! document that it takes. With D documents and B bins a packing costs at most D * B / 256 looks at bounds and
-//! about 1,000 * D looks at bins.
+//! The bins stand in blocks of 256, each with a bound on the room of its bins. A block is scanned only
+//! where its bound allows the document, and a scan in vain makes the bound exact; so a block is
+//! scanned in vain at most once for each document that it takes. With D documents and B bins a packing
+//! costs at most D * ceil(B / 256) looks at bounds and about 1,000 * D looks at bins.
 
 ghost use Rattle.std.specs.Prelude.{◌≡◌, ◌+◌, ◌*◌, ◌/◌, ◌<◌, ◌≤◌, ◌++◌, ◌^◌, ℕ, List, [], ◌∷◌, length, slice_index, slice_index_or, slice_set, IfOk, MatchOption, IfSome, map};
 ghost use Rattle.std.specs.List.{All, range_with_len};
@@ -11,9 +11,9 @@ ghost use Rattle.std.specs.List.Sorted.{IsPermutation, IsSorted};
 ghost use Rattle.co_pack.specs.Packing.{IsBinSize, load, IsNext, IsFirstFit, IsPacked, IsBinCount, IsEarlier, key_cmp, no_place};
 ghost use Rattle.co_pack.specs.Rooms.{IsTopped, IsRoom, IsOpened};
 
+use co_list::Listed;
 use std::alloc::{AllocError, Global};
 use std::cmp::Reverse;
-use std::marker::Model;
 
 /// The most documents that are packed.
 pub const MOST_DOCUMENTS: usize = 65_536;
@@ -30,51 +30,19 @@ const BLOCK: usize = 256;
 /// Where a text stands: its bin, its first byte there, and its bytes.
 #[derive(Clone, Copy, Debug, PartialEq, Eq)]
 pub struct Place {
+    /// The bin's number, from 0.
     pub bin: u32,
+    /// How many bytes of the bin stand before the text.
     pub offset: u32,
+    /// How many bytes the text has.
     pub length: u32,
 }
 
 /// Document by document, where its text stands.
-#[derive(Debug, Drop)]
-pub struct Places {
-    items: Vec<Place>,
-}
+pub type Places = Listed<Place>;
 
-impl Model for Places {
-    ghost use Rattle.std.specs.Prelude.{List};
-    ghost use Rattle.co_pack.specs.declared.packing.Place.{Place};
-
-    ghost Value = { List Place };
-
-    ghost view = { λ p. p.items.items };
-}
-
-impl Places {
-    /// The places of a vector, with no copy.
-    pub fn from_vec(items: Vec<Place>) -> Self
-        ensures { result ≡ items.items }
-    {
-        Places { items }
-    }
-
-    /// The vector, with no copy.
-    pub fn into_vec(self) -> Vec<Place>
-        ensures { result.items ≡ self }
-    {
-        self.items
-    }
-
-    /// The places as a slice, by document.
-    pub fn as_slice(&self) -> &[Place]
-        ensures { result.now ≡ self.now }
-    {
-        self.items.as_slice()
-    }
-}
-
-/// The bytes of a bin: the least multiple of `2 * degree` that holds the longest text, and at least `chunks`
-/// pieces of `2 * degree` bytes.
+/// The bytes of a bin: the least multiple of `2 * degree` that holds the longest text, and at least
+/// `chunks` pieces of `2 * degree` bytes.
 pub fn bin_size(longest: u32, degree: u32, chunks: u32) -> u32
     requires longest { longest ≤ LONGEST_TEXT }
     requires some_degree { 1 ≤ degree }
@@ -88,8 +56,8 @@ pub fn bin_size(longest: u32, degree: u32, chunks: u32) -> u32
     pieces * piece
 }
 
-/// Puts documents, given by their lengths, into bins of `size` bytes: the longest first, and of equal ones the
-/// lowest number first, each into the first bin with room, behind what stands there.
+/// Puts documents, given by their lengths, into bins of `size` bytes: the longest first, and of equal
+/// ones the lowest number first, each into the first bin with room, behind what stands there.
 ///
 /// Gives the places by document, and the number of bins.
 pub fn pack_bins(alloc: Global, lengths: &[u32], size: u32) -> Result<(Places, u32), AllocError>
@@ -121,7 +89,8 @@ fn first_in(rooms: &[u32], from: usize, to: usize, need: u32) -> Option<usize>
     None
 }
 
-/// The first bin of a block with room. Where there is none, the block's bound becomes the greatest room there.
+/// The first bin of a block with room. Where there is none, the block's bound becomes the greatest
+/// room there.
 fn in_block(rooms: &[u32], tops: &mut [u32], block: usize, need: u32) -> Option<usize>
     requires topped { IsTopped rooms.now tops.old }
     requires few { length tops.old ≤ 2 ^ 32 }

@@ -38,16 +38,16 @@ pub struct Record {
 /// Why bytes are not read as a record.
 #[derive(Clone, Copy, Debug, PartialEq, Eq, Error)]
 pub enum RecordFault {
-    /// The first fault, at this offset: 16 where the title's length is above 200, 17 where the title's bytes are no
-    /// title, else the first byte behind the title that is not zero.
+    /// The first fault, at this offset: 16 where the title's length is above 200, 17 where the
+    /// title's bytes are no title, else the first byte behind the title that is not zero.
     #[error("no record at {place}")]
     BadRecord { place: u32 },
     #[error("out of memory")]
     OutOfMemory,
 }
 
-/// Writes the bytes of a record: document, bin, offset and length, four bytes each, the highest first; the length of the
-/// title, the title, and zeros to the end.
+/// Writes the bytes of a record: document, bin, offset and length, four bytes each, the highest
+/// first; the length of the title, the title, and zeros to the end.
 #[tactic(auto, unfolding(crate::specs::Records::record_bytes, crate::specs::Records::title_bytes))]
 pub fn write_record(document: u32, place: Place, title: &Title, into: &mut [u8])
     requires { length into.old ≡ RECORD_BYTES }
@@ -69,17 +69,15 @@ pub fn write_record(document: u32, place: Place, title: &Title, into: &mut [u8])
     zeros.fill(0);
 }
 
-/// Reads a record. It accepts exactly the bytes that `write_record` writes, and gives back what was written.
+/// Reads a record. It accepts exactly the bytes that `write_record` writes, and gives back what was
+/// written.
 pub fn read_record(alloc: Global, bytes: &[u8]) -> Result<Record, RecordFault>
     requires { length bytes.now ≡ RECORD_BYTES }
     ensures found { IfOk result (λ r. IsRecord r × (bytes.now ≡ record_bytes r.document r.place r.title)) }
     ensures only { (r : Record) → IsRecord r → bytes.now ≡ record_bytes r.document r.place r.title → IsReadAs result (Ok r) }
     ensures exact { IsReadAs result (record_of bytes.now) }
 {
-    let title = match title_in(alloc, bytes) {
-        Ok(title) => title,
-        Err(fault) => return Err(fault),
-    };
+    let title = title_in(alloc, bytes)?;
     let place = Place {
         bin: number_at(bytes, 4),
         offset: number_at(bytes, 8),
@@ -92,6 +90,7 @@ pub fn read_record(alloc: Global, bytes: &[u8]) -> Result<Record, RecordFault>
     })
 }
 
+/// The number that the four bytes at a place spell, the highest first.
 fn number_at(bytes: &[u8], at: usize) -> u32
     requires { at + 4 ≤ length bytes.now }
     ensures value { result ≡ number_at at bytes.now }
@@ -110,17 +109,16 @@ fn title_in(alloc: Global, bytes: &[u8]) -> Result<Title, RecordFault>
 {
     let size = bytes[TITLE_LENGTH_AT] as usize;
     if size > MOST_TITLE {
-        return Err(RecordFault::BadRecord { place: 16 });
+        return Err(RecordFault::BadRecord {
+            place: TITLE_LENGTH_AT as u32,
+        });
     }
     let (_, tail) = bytes.split_at(TITLE_AT);
     let (text, behind) = tail.split_at(size);
-    let title = match title_from(alloc, text) {
-        Ok(title) => title,
-        Err(fault) => return Err(fault),
-    };
+    let title = title_from(alloc, text)?;
     match first_set(behind) {
         Some(at) => Err(RecordFault::BadRecord {
-            place: 17 + size as u32 + at as u32,
+            place: (TITLE_AT + size + at) as u32,
         }),
         None => Ok(title),
     }
@@ -132,14 +130,18 @@ fn title_from(alloc: Global, bytes: &[u8]) -> Result<Title, RecordFault>
     ensures { IsReadAs result (if is_text bytes.now then Ok bytes.now else Err TITLE_AT) }
 {
     let Ok(text) = str::from_utf8(bytes) else {
-        return Err(RecordFault::BadRecord { place: 17 });
+        return Err(RecordFault::BadRecord {
+            place: TITLE_AT as u32,
+        });
     };
     let Ok(text) = String::from_str(alloc, text) else {
         return Err(RecordFault::OutOfMemory);
     };
     match Title::from_text(text) {
         Some(title) => Ok(title),
-        None => Err(RecordFault::BadRecord { place: 17 }),
+        None => Err(RecordFault::BadRecord {
+            place: TITLE_AT as u32,
+        }),
     }
 }
 

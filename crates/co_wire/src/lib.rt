@@ -19,7 +19,7 @@ mod writing;
 
 pub use cursor::Cursor;
 pub use fault::WireFault;
-pub use fields::{read_u16_within, read_u32_within, read_word};
+pub use fields::{MOST_BYTES_IN_BINS, read_end, read_u16_within, read_u32_within, read_word};
 pub use reading::{read_fields, read_public, read_shape_fields};
 pub use writing::{put_shape_fields, put_u32, write_public};
 
