@@ -16,6 +16,3 @@ pub mod spectra;
 
 pub use pairs::Pair;
 pub use spectra::{PairSpectrum, Tables, from_spectrum, to_spectrum};
-
-#[cfg(test)]
-mod tests;
