@@ -18,6 +18,3 @@ pub use ciphers::Cipher;
 pub use draws::{sample_error, sample_secret, sample_uniform};
 pub use encryption::{decrypt, encrypt};
 pub use secrets::Secret;
-
-#[cfg(test)]
-mod tests;

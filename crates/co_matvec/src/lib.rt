@@ -11,8 +11,6 @@
 
 mod diagonals;
 mod scores;
-#[cfg(test)]
-mod tests;
 mod weights;
 
 pub use scores::score;

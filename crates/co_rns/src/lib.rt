@@ -20,6 +20,3 @@ pub use decompositions::Decomposition;
 pub use pairs::Pair;
 pub use spectra::{PairSpectrum, Tables, from_spectrum, to_spectrum};
 pub use sums::PairSum;
-
-#[cfg(test)]
-mod tests;

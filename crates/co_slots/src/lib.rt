@@ -15,6 +15,3 @@ pub mod slots;
 
 pub use payloads::{ByteFault, decode_bytes, encode_bytes};
 pub use slots::{SlotTable, decode_slots, encode_slots};
-
-#[cfg(test)]
-mod tests;

@@ -13,8 +13,6 @@ mod keys;
 mod making;
 mod steps;
 mod switching;
-#[cfg(test)]
-mod tests;
 
 pub use key_sets::KeySet;
 pub use keys::GaloisKey;

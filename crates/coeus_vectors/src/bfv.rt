@@ -1,0 +1,174 @@
+//! Draws, encryption, decryption, and sums of ciphertexts.
+
+ghost use Rattle.std.specs.Prelude.{◌≡◌, length, IfOk};
+ghost use Rattle.co_bfv.specs.Ciphertexts.{ciphertext_degree};
+
+use crate::cases::Case;
+use crate::lines::{put, put_ciphers, put_pair, put_poly, put_words};
+use crate::streams::{Given, Stand, skip};
+use anyhow::{Error, bail};
+use co_bfv::{Cipher, Secret, decrypt, encrypt, sample_error, sample_secret, sample_uniform};
+use co_ring::{Degree, Modulus};
+use co_slots::decode_slots;
+use rand_core::{Rng, SeedableRng};
+use rand_xoshiro::SplitMix64;
+use std::alloc::Global;
+
+pub fn line(alloc: Global, call: &str, case: Case) -> Result<String, Error> {
+    match case.text("stream") {
+        "given" => {
+            let words = case.words(alloc, "words")?;
+            line_with(alloc, call, case, &mut Given::new(&words))
+        }
+        seed => {
+            let mut words = SplitMix64::seed_from_u64(seed.parse().unwrap_or(0));
+            line_with(alloc, call, case, &mut words)
+        }
+    }
+}
+
+/// The line of a call that takes its words from a stream. The secret is drawn first, and then some
+/// words are passed over.
+fn line_with<R: Stand>(
+    alloc: Global,
+    call: &str,
+    case: Case,
+    rng: &mut R,
+) -> Result<String, Error> {
+    let degree = case.degree()?;
+    let mut line = String::new(alloc);
+    let secret = sample_secret(alloc, degree, rng)?;
+    skip(rng, case.number("skip"));
+    match call {
+        "secret" => put_pair(&mut line, &secret.residues(alloc)?)?,
+        "uniform" => put_pair(&mut line, &sample_uniform(alloc, degree, rng)?)?,
+        "error" => put_pair(&mut line, &sample_error(alloc, degree, rng)?)?,
+        "encrypt" => put_encryption(alloc, &mut line, case, &secret, rng)?,
+        "decrypt" => put_decryption(alloc, &mut line, case, &secret)?,
+        "sum" => put_combined(alloc, &mut line, call, case, &secret, rng)?,
+        "difference" => put_combined(alloc, &mut line, call, case, &secret, rng)?,
+        "product" => put_combined(alloc, &mut line, call, case, &secret, rng)?,
+        "times" => put_multiple(alloc, &mut line, case, &secret, rng)?,
+        _ => bail!("no such call"),
+    }
+    put(&mut line, rng.stand() as u128)?;
+    Ok(line)
+}
+
+/// The encryption of the message of a field.
+pub fn encrypted<R: Rng>(
+    alloc: Global,
+    case: Case,
+    name: &str,
+    secret: &Secret,
+    rng: &mut R,
+) -> Result<Cipher, Error>
+    ensures { IfOk result (λ c. ciphertext_degree c ≡ length secret.now) }
+{
+    let message = case.poly(alloc, Modulus::Plain, name)?;
+    if message.degree() != secret.degree() {
+        bail!("two degrees");
+    }
+    Ok(encrypt(alloc, secret, &message, rng)?)
+}
+
+/// What a ciphertext opens to.
+pub fn put_opened(
+    alloc: Global,
+    line: &mut String,
+    secret: &Secret,
+    cipher: &Cipher,
+) -> Result<(), Error> {
+    if cipher.degree() != secret.degree() {
+        bail!("two degrees");
+    }
+    put_poly(line, &decrypt(alloc, secret, cipher)?)?;
+    Ok(())
+}
+
+/// The slots that a ciphertext opens to.
+pub fn put_opened_slots(
+    alloc: Global,
+    line: &mut String,
+    secret: &Secret,
+    cipher: &Cipher,
+) -> Result<(), Error> {
+    if cipher.degree() != secret.degree() {
+        bail!("two degrees");
+    }
+    let message = decrypt(alloc, secret, cipher)?;
+    put_words(line, &decode_slots(alloc, &message)?)?;
+    Ok(())
+}
+
+fn put_encryption<R: Rng>(
+    alloc: Global,
+    line: &mut String,
+    case: Case,
+    secret: &Secret,
+    rng: &mut R,
+) -> Result<(), Error> {
+    let cipher = encrypted(alloc, case, "message", secret, rng)?;
+    put_pair(line, cipher.c0())?;
+    put_pair(line, cipher.c1())?;
+    put_opened(alloc, line, secret, &cipher)
+}
+
+fn put_decryption(
+    alloc: Global,
+    line: &mut String,
+    case: Case,
+    secret: &Secret,
+) -> Result<(), Error> {
+    let c0 = case.pair(alloc, "c0")?;
+    let c1 = case.pair(alloc, "c1")?;
+    if c0.degree() != c1.degree() {
+        bail!("two degrees");
+    }
+    put_opened(alloc, line, secret, &Cipher::from_parts(c0, c1))
+}
+
+/// The digest of a sum, a difference or a product with a plain polynomial, and what it opens to.
+fn put_combined<R: Rng>(
+    alloc: Global,
+    line: &mut String,
+    call: &str,
+    case: Case,
+    secret: &Secret,
+    rng: &mut R,
+) -> Result<(), Error> {
+    let mut one = encrypted(alloc, case, "one", secret, rng)?;
+    let other = encrypted(alloc, case, "other", secret, rng)?;
+    match call {
+        "sum" => one.add_in(&other),
+        "difference" => one.sub_in(&other),
+        _ => one = plain_product(alloc, case, &one)?,
+    }
+    put_opened(alloc, line, secret, &one)?;
+    put_ciphers(alloc, line, &[one])?;
+    Ok(())
+}
+
+fn plain_product(alloc: Global, case: Case, cipher: &Cipher) -> Result<Cipher, Error> {
+    let plain = case.poly(alloc, Modulus::Plain, "plain")?;
+    if plain.degree() != cipher.degree() {
+        bail!("two degrees");
+    }
+    Ok(cipher.mul_plain(alloc, &plain)?)
+}
+
+/// What so many times a ciphertext opens to.
+fn put_multiple<R: Rng>(
+    alloc: Global,
+    line: &mut String,
+    case: Case,
+    secret: &Secret,
+    rng: &mut R,
+) -> Result<(), Error> {
+    let one = encrypted(alloc, case, "message", secret, rng)?;
+    let mut sum = Cipher::zero(alloc, Degree::of(one.degree()))?;
+    for _ in 0..case.number("count") {
+        sum.add_in(&one);
+    }
+    put_opened(alloc, line, secret, &sum)
+}

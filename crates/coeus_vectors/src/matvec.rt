@@ -1,0 +1,183 @@
+//! Score replies.
+
+ghost use Rattle.std.specs.Prelude.{ℕ, ◌≡◌, ◌+◌, ◌<◌, length, slice_index_or, IsTrue, IfOk, All};
+ghost use Rattle.co_math.specs.Parameters.{plain_modulus};
+ghost use Rattle.co_math.specs.Coefficients.{AreBelow};
+ghost use Rattle.co_bfv.specs.Ciphertexts.{ciphertext_degree};
+ghost use Rattle.co_matvec.specs.Weights.{AreEntries, Precedes, keyword_blocks};
+
+use crate::bfv::put_opened_slots;
+use crate::cases::Case;
+use crate::lines::put_ciphers;
+use crate::switch::{degree_of_keys, tested};
+use anyhow::{Error, bail};
+use co_bfv::{Cipher, Secret, encrypt, sample_secret};
+use co_board::OpenGate;
+use co_matvec::{Weights, score};
+use co_ring::Degree;
+use co_slots::encode_slots;
+use co_switch::{Steps, make_keys};
+use rand_core::{Rng, SeedableRng};
+use rand_xoshiro::SplitMix64;
+use std::alloc::{AllocError, Global};
+
+pub fn line(alloc: Global, call: &str, case: Case) -> Result<String, Error> {
+    let mut line = String::new(alloc);
+    match call {
+        "score" => put_scores(alloc, &mut line, case, true)?,
+        "slots" => put_scores(alloc, &mut line, case, false)?,
+        _ => bail!("no such call"),
+    }
+    Ok(line)
+}
+
+/// The entries that a field lists, three numbers each: term, document and weight.
+fn entries(alloc: Global, case: Case) -> Result<Vec<(u32, u32, u16)>, AllocError> {
+    let numbers = case.numbers(alloc, "weights")?;
+    let mut all = Vec::new(alloc);
+    for entry in numbers.chunks_exact(3) {
+        if let [term, document, weight] = entry {
+            all.push((*term, *document, u16::try_from(*weight).unwrap_or(0)))?;
+        }
+    }
+    Ok(all)
+}
+
+/// Whether an entry is in range.
+fn is_within(documents: u32, terms: u32, entry: &(u32, u32, u16)) -> bool
+    ensures { IsTrue result → (entry.now.0 < terms) × (entry.now.1 < documents) }
+{
+    entry.0 < terms && entry.1 < documents
+}
+
+/// Whether an entry comes before another.
+fn precedes(entry: &(u32, u32, u16), next: &(u32, u32, u16)) -> bool
+    ensures { IsTrue result → Precedes entry.now next.now }
+{
+    entry.0 < next.0 || entry.0 == next.0 && entry.1 < next.1
+}
+
+/// Whether all entries are in range.
+fn are_within(documents: u32, terms: u32, entries: &[(u32, u32, u16)]) -> bool
+    ensures { IsTrue result → All (λ e. (e.0 < terms) × (e.1 < documents)) entries.now }
+{
+    for entry in entries {
+        if !is_within(documents, terms, entry) {
+            return false;
+        }
+    }
+    true
+}
+
+/// Whether each entry comes before the next.
+fn ascend(entries: &[(u32, u32, u16)]) -> bool
+    ensures { IsTrue result → (i : ℕ) (d : ℕ × ℕ × ℕ) → i + 1 < length entries.now
+        → Precedes (slice_index_or entries.now i d) (slice_index_or entries.now (i + 1) d) }
+{
+    for next in 1..entries.len() {
+        if !precedes(&entries[next - 1], &entries[next]) {
+            return false;
+        }
+    }
+    true
+}
+
+/// Whether entries are in range and ascend.
+fn are_entries(documents: u32, terms: u32, entries: &[(u32, u32, u16)]) -> bool
+    ensures { IsTrue result → AreEntries documents terms entries.now }
+{
+    are_within(documents, terms, entries) && ascend(entries)
+}
+
+fn weights(alloc: Global, degree: Degree, case: Case) -> Result<Weights, Error>
+    ensures { IfOk result (λ w. w.degree ≡ degree) }
+{
+    let entries = entries(alloc, case)?;
+    let documents = case.number("documents");
+    let terms = case.number("terms");
+    if !are_entries(documents, terms, &entries) {
+        bail!("no weights");
+    }
+    Ok(Weights::new(alloc, degree, documents, terms, &entries)?)
+}
+
+/// The slots of the keyword polynomial of a block.
+fn keyword_slots(
+    alloc: Global,
+    degree: Degree,
+    block: usize,
+    keywords: &[u32],
+) -> Result<Vec<u64>, AllocError>
+    ensures len { IfOk result (λ slots. length slots.items ≡ degree) }
+    ensures small { IfOk result (λ slots. AreBelow plain_modulus slots.items) }
+{
+    let n = degree.get() as usize;
+    let half = n / 2;
+    let mut slots = vec![in alloc; 0u64; n]?;
+    if half == 0 {
+        return Ok(slots);
+    }
+    for p in 0..n {
+        let column = p % half;
+        if keywords.iter().any(|&y| y as usize / half == block && y as usize % half == column) {
+            slots[p] = 1;
+        }
+    }
+    Ok(slots)
+}
+
+/// A query for keywords, drawn block by block.
+fn queries<R: Rng>(
+    alloc: Global,
+    degree: Degree,
+    keywords: &[u32],
+    blocks: usize,
+    secret: &Secret,
+    rng: &mut R,
+) -> Result<Vec<Cipher>, AllocError>
+    requires { length secret.now ≡ degree }
+    ensures count { IfOk result (λ query. length query.items ≡ blocks) }
+    ensures degree { IfOk result (λ query. All (λ c. ciphertext_degree c ≡ degree) query.items) }
+{
+    let mut query = Vec::new(alloc);
+    for block in 0..blocks {
+        let slots = keyword_slots(alloc, degree, block, keywords)?;
+        let plain = encode_slots(alloc, degree, &slots)?;
+        query.push(encrypt(alloc, secret, &plain, rng)?)?;
+    }
+    Ok(query)
+}
+
+/// The slots that the replies open to, behind the digests of query and replies where they are known.
+fn put_scores(
+    alloc: Global,
+    line: &mut String,
+    case: Case,
+    with_digests: bool,
+) -> Result<(), Error> {
+    let tested = tested(case)?;
+    let degree = Degree::of(tested.shape().degree() as usize);
+    let mut words = SplitMix64::seed_from_u64(case.number("stream") as u64);
+    let secret = sample_secret(alloc, degree, &mut words)?;
+    let keys = make_keys(alloc, &tested, &secret, &mut words)?;
+    let weights = weights(alloc, degree, case)?;
+    if degree_of_keys(&keys) != degree.get() as usize {
+        bail!("two degrees");
+    }
+    let keywords = case.numbers(alloc, "keywords")?;
+    let blocks = weights.keyword_blocks();
+    let query = queries(alloc, degree, &keywords, blocks, &secret, &mut words)?;
+    let workers = case.number("workers").clamp(1, 64);
+    let mut steps = Steps::begin();
+    let replies = score(
+        alloc, &weights, &keys, &query, workers, &OpenGate, &mut steps,
+    )?;
+    if with_digests {
+        put_ciphers(alloc, line, &query)?;
+        put_ciphers(alloc, line, &replies)?;
+    }
+    for reply in &replies {
+        put_opened_slots(alloc, line, &secret, reply)?;
+    }
+    Ok(())
+}

@@ -1,0 +1,171 @@
+//! Retrievals: the query, its expansion, the reply, and what it opens to.
+
+ghost use Rattle.std.specs.Prelude.{◌≡◌, ◌≤◌, length, All, IfOk, IsTrue};
+ghost use Rattle.co_noise.specs.Shapes.{log2_up};
+ghost use Rattle.co_bfv.specs.Ciphertexts.{ciphertext_degree};
+ghost use Rattle.co_switch.specs.Keys.{keys_degree};
+
+use crate::bfv::{encrypted, put_opened};
+use crate::cases::Case;
+use crate::lines::{put, put_bytes, put_ciphers, put_text};
+use crate::switch::{degree_of_keys, tested};
+use anyhow::{Error, bail};
+use co_bfv::{Cipher, Secret, encrypt, sample_secret};
+use co_board::OpenGate;
+use co_pir::{Rows, answer, expand, levels, open_reply, query_message};
+use co_ring::Degree;
+use co_slots::ByteFault;
+use co_switch::{KeySet, Steps, make_keys};
+use rand_core::SeedableRng;
+use rand_xoshiro::SplitMix64;
+use std::alloc::Global;
+
+pub fn line(alloc: Global, call: &str, case: Case) -> Result<String, Error> {
+    let mut line = String::new(alloc);
+    match call {
+        "query" => put_query(alloc, &mut line, case)?,
+        "retrieve" => put_retrieval(alloc, &mut line, case)?,
+        "open" => put_opened_reply(alloc, &mut line, case)?,
+        _ => bail!("no such call"),
+    }
+    Ok(line)
+}
+
+/// The coefficients other than 0, each behind its place.
+fn put_query(alloc: Global, line: &mut String, case: Case) -> Result<(), Error> {
+    let degree = case.degree()?;
+    let rows = case.number("rows");
+    let row = case.number("row");
+    if row >= rows || rows > degree.get() {
+        bail!("no row");
+    }
+    let message = query_message(alloc, degree, rows, row)?;
+    for k in 0..message.degree() {
+        if message.coeff(k) != 0 {
+            put(line, k as u128)?;
+            put(line, message.coeff(k) as u128)?;
+        }
+    }
+    Ok(())
+}
+
+/// Whether the keys suffice for so many rows.
+fn suffices(keys: &KeySet, degree: usize, rows: u32) -> bool
+    requires some { 1 ≤ rows }
+    requires few { rows ≤ 4096 }
+    ensures degree { IsTrue result → keys_degree keys.now ≡ degree }
+    ensures enough { IsTrue result → log2_up rows ≤ length keys.now.expansions }
+{
+    let found = degree_of_keys(keys);
+    found > 0 && found == degree && levels(rows) as usize <= keys.expansions().len()
+}
+
+/// The digests of the query and of the ciphertexts that it expands to, what these open to, the
+/// digest of the reply, and the bytes that it opens to.
+fn put_retrieval(alloc: Global, line: &mut String, case: Case) -> Result<(), Error> {
+    let tested = tested(case)?;
+    let degree = Degree::of(tested.shape().degree() as usize);
+    let rows = case.number("rows");
+    let row = case.number("row");
+    if row >= rows || rows > degree.get() {
+        bail!("no row");
+    }
+    let mut words = SplitMix64::seed_from_u64(case.number("stream") as u64);
+    let secret = sample_secret(alloc, degree, &mut words)?;
+    let keys = make_keys(alloc, &tested, &secret, &mut words)?;
+    let message = query_message(alloc, degree, rows, row)?;
+    let query = encrypt(alloc, &secret, &message, &mut words)?;
+    put_expansion(alloc, line, rows, &secret, &keys, &query)?;
+    put_reply(alloc, line, case, &secret, &keys, &query)?;
+    put_ciphers(alloc, line, &[query])?;
+    Ok(())
+}
+
+fn put_expansion(
+    alloc: Global,
+    line: &mut String,
+    rows: u32,
+    secret: &Secret,
+    keys: &KeySet,
+    query: &Cipher,
+) -> Result<(), Error>
+    requires some { 1 ≤ rows }
+    requires few { rows ≤ 4096 }
+    requires rows { rows ≤ ciphertext_degree query.now }
+{
+    if !suffices(keys, query.degree(), rows) {
+        bail!("too few keys");
+    }
+    let ciphers = expand(alloc, query, keys, rows, &mut Steps::begin())?;
+    for cipher in &ciphers {
+        put_opened(alloc, line, secret, cipher)?;
+    }
+    for cipher in ciphers {
+        put_ciphers(alloc, line, &[cipher])?;
+    }
+    Ok(())
+}
+
+fn put_reply(
+    alloc: Global,
+    line: &mut String,
+    case: Case,
+    secret: &Secret,
+    keys: &KeySet,
+    query: &Cipher,
+) -> Result<(), Error> {
+    let rows = case.number("rows");
+    let chunks = case.number("chunks");
+    let bytes = case.bytes(alloc, "bytes")?;
+    let n = query.degree();
+    if rows == 0 || rows as usize > n || chunks > 4096 || n != secret.degree() {
+        bail!("no table");
+    }
+    if bytes.len() != rows as usize * (chunks as usize * (2 * n)) || !suffices(keys, n, rows) {
+        bail!("no table");
+    }
+    let table = Rows::new(alloc, Degree::of(n), rows, chunks, &bytes)?;
+    let reply = answer(
+        alloc,
+        &table,
+        keys,
+        query,
+        1,
+        &OpenGate,
+        &mut Steps::begin(),
+    )?;
+    put_ciphers(alloc, line, &reply)?;
+    put_bytes_of(alloc, line, secret, &reply)
+}
+
+/// The bytes that a reply opens to, or the first place that spells none.
+fn put_bytes_of(
+    alloc: Global,
+    line: &mut String,
+    secret: &Secret,
+    reply: &[Cipher],
+) -> Result<(), Error>
+    requires { All (λ c. ciphertext_degree c ≡ length secret.now) reply.now }
+{
+    if secret.degree() > 4096 || reply.len() > 4096 {
+        bail!("no reply");
+    }
+    match open_reply(alloc, secret, reply) {
+        Ok(bytes) => put_bytes(alloc, line, bytes.as_slice())?,
+        Err(ByteFault::NotByte { place }) => {
+            put_text(line, "not byte")?;
+            put(line, place as u128)?;
+        }
+        Err(ByteFault::OutOfMemory) => bail!("out of memory"),
+    }
+    Ok(())
+}
+
+/// The bytes of a reply of two ciphertexts, of given messages.
+fn put_opened_reply(alloc: Global, line: &mut String, case: Case) -> Result<(), Error> {
+    let mut words = SplitMix64::seed_from_u64(case.number("stream") as u64);
+    let secret = sample_secret(alloc, case.degree()?, &mut words)?;
+    let first = encrypted(alloc, case, "first", &secret, &mut words)?;
+    let second = encrypted(alloc, case, "second", &secret, &mut words)?;
+    put_bytes_of(alloc, line, &secret, &[first, second])
+}

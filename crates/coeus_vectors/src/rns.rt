@@ -1,0 +1,130 @@
+//! Polynomials modulo q.
+
+use crate::cases::Case;
+use crate::lines::{put_pair, put_poly};
+use anyhow::{Error, bail};
+use co_math::parameters::DIGIT_COUNT;
+use co_ring::{Degree, Modulus};
+use co_rns::{Pair, PairSpectrum, Tables, from_spectrum, to_spectrum};
+use std::alloc::Global;
+
+pub fn line(alloc: Global, call: &str, case: Case) -> Result<String, Error> {
+    let mut line = String::new(alloc);
+    match call {
+        "split" => put_parts(alloc, &mut line, case)?,
+        "join" => put_pair(&mut line, &joined(alloc, case)?)?,
+        "digit" => put_digits(alloc, &mut line, case)?,
+        "mul" => put_pair(&mut line, &product(alloc, case)?)?,
+        "mul_add" => put_pair(&mut line, &product_by_values(alloc, case)?)?,
+        "mul_plain" => put_pair(&mut line, &plain_product(alloc, case)?)?,
+        "substitute" => put_pair(&mut line, &substituted(alloc, case)?)?,
+        "shift" => put_pair(&mut line, &shifted(alloc, case)?)?,
+        "add" => put_pair(&mut line, &sum(alloc, case, false)?)?,
+        "sub" => put_pair(&mut line, &sum(alloc, case, true)?)?,
+        _ => bail!("no such call"),
+    }
+    Ok(line)
+}
+
+/// The residues modulo q1, and then those modulo q2.
+fn put_parts(alloc: Global, line: &mut String, case: Case) -> Result<(), Error> {
+    let a = case.pair(alloc, "a")?;
+    put_poly(line, a.first())?;
+    put_poly(line, a.second())?;
+    Ok(())
+}
+
+fn joined(alloc: Global, case: Case) -> Result<Pair, Error> {
+    let first = case.poly(alloc, Modulus::First, "first")?;
+    let second = case.poly(alloc, Modulus::Second, "second")?;
+    if first.degree() != second.degree() {
+        bail!("two degrees");
+    }
+    Ok(Pair::from_parts(first, second))
+}
+
+/// The lowest digits of all coefficients, then the next ones.
+fn put_digits(alloc: Global, line: &mut String, case: Case) -> Result<(), Error> {
+    let a = case.pair(alloc, "a")?;
+    let mut into = Pair::zero(alloc, Degree::of(a.degree()))?;
+    for index in 0..DIGIT_COUNT {
+        a.digit(index, &mut into);
+        put_pair(line, &into)?;
+    }
+    Ok(())
+}
+
+fn product(alloc: Global, case: Case) -> Result<Pair, Error> {
+    let a = case.pair(alloc, "a")?;
+    let b = case.pair(alloc, "b")?;
+    if a.degree() != b.degree() {
+        bail!("two degrees");
+    }
+    Ok(a.mul(alloc, &b)?)
+}
+
+/// The product, back from the products of values.
+fn product_by_values(alloc: Global, case: Case) -> Result<Pair, Error> {
+    let a = case.pair(alloc, "a")?;
+    let b = case.pair(alloc, "b")?;
+    if a.degree() != b.degree() {
+        bail!("two degrees");
+    }
+    let degree = Degree::of(a.degree());
+    let tables = Tables::new(alloc, degree)?;
+    let mut of_a = PairSpectrum::zero(alloc, degree)?;
+    let mut of_b = PairSpectrum::zero(alloc, degree)?;
+    let mut sum = PairSpectrum::zero(alloc, degree)?;
+    to_spectrum(&tables, &a, &mut of_a);
+    to_spectrum(&tables, &b, &mut of_b);
+    sum.mul_add(&of_a, &of_b);
+    let mut back = Pair::zero(alloc, degree)?;
+    from_spectrum(&tables, &sum, &mut back);
+    Ok(back)
+}
+
+fn plain_product(alloc: Global, case: Case) -> Result<Pair, Error> {
+    let a = case.pair(alloc, "a")?;
+    let plain = case.poly(alloc, Modulus::Plain, "plain")?;
+    if a.degree() != plain.degree() {
+        bail!("two degrees");
+    }
+    Ok(a.mul_plain(alloc, &plain)?)
+}
+
+fn substituted(alloc: Global, case: Case) -> Result<Pair, Error> {
+    let a = case.pair(alloc, "a")?;
+    let g = case.number("g");
+    if g % 2 == 0 || g as usize >= 2 * a.degree() {
+        bail!("no Galois element");
+    }
+    let mut into = Pair::zero(alloc, Degree::of(a.degree()))?;
+    a.substitute(g, &mut into);
+    Ok(into)
+}
+
+fn shifted(alloc: Global, case: Case) -> Result<Pair, Error> {
+    let a = case.pair(alloc, "a")?;
+    let exponent = case.number("exponent");
+    if exponent as usize >= 2 * a.degree() {
+        bail!("no exponent");
+    }
+    let mut into = Pair::zero(alloc, Degree::of(a.degree()))?;
+    a.monomial_mul(exponent, &mut into);
+    Ok(into)
+}
+
+/// The sum, or the difference.
+fn sum(alloc: Global, case: Case, negated: bool) -> Result<Pair, Error> {
+    let mut a = case.pair(alloc, "a")?;
+    let b = case.pair(alloc, "b")?;
+    if a.degree() != b.degree() {
+        bail!("two degrees");
+    }
+    if negated {
+        a.sub_in(&b);
+    } else {
+        a.add_in(&b);
+    }
+    Ok(a)
+}
