@@ -10,7 +10,6 @@
 //! Not here: what the bytes mean, and which file or sink a command uses.
 #![tactic(auto)]
 
-mod bytes;
 mod failures;
 mod files;
 mod memory_files;
@@ -18,12 +17,14 @@ mod memory_sink;
 mod sink;
 mod system;
 
-pub use bytes::Bytes;
 pub use files::{FileFault, FileKind, Files};
 pub use memory_files::MemoryFiles;
 pub use memory_sink::MemorySink;
 pub use sink::{Failed, Sink};
 pub use system::{StdFiles, StdSink};
+
+/// Bytes of any length.
+pub type Bytes = co_list::Listed<u8>;
 
 #[cfg(test)]
 mod tests;
