@@ -5,7 +5,7 @@ use borrow.Author.Differences.{abs_is}
 use Rattle.std.proofs.lemmas.Bool.{leb-true, leb-false}
 use Rattle.co_math.specs.Residues.{residue, Congruent}
 use Rattle.co_math.specs.Polynomials.{IsWrapped, plus, minus, product}
-use Rattle.co_math.specs.Coefficients.{coefficients, AreResidues, IsDegree}
+use Rattle.co_math.specs.Coefficients.{coefficients, AreResidues, IsDegree, residues_of}
 use Rattle.co_math.specs.Meanings.{centred, Means}
 use Rattle.co_math.proofs.Integers.{linear}
 use Rattle.co_math.proofs.Residues.{residue-lt}
@@ -18,9 +18,10 @@ use Rattle.co_math.specs.Parameters.{q, plain_modulus, plain_half}
 use Rattle.co_rns.specs.Residue_pairs.{centred_coefficients}
 use Rattle.co_rns.specs.Pairs.{IsWhole}
 use Rattle.co_rns.proofs.Centring.{centred_IsWrapped}
-use Rattle.co_bfv.specs.Lists.{residues_of}
 use Rattle.co_bfv.specs.Ciphertexts.{Ciphertext, IsCiphertext, ciphertext_degree, MeansWithin, zero_ciphertext, ciphertext_sum, ciphertext_difference, plain_product}
-use Rattle.co_bfv.proofs.Listed.{degree_positive, residues_of-is, length-residues_of, residues_of-agree, residues_of-below, plus-IsWrapped, minus-IsWrapped}
+use Rattle.co_math.proofs.Degrees.{degree_positive}
+use Rattle.co_math.proofs.Residue_lists.{residues_of-is, length-residues_of, residues_of-agree, residues_of-below}
+use Rattle.co_math.proofs.Wrapped.{plus-IsWrapped, minus-IsWrapped}
 use Rattle.co_bfv.proofs.Meant.{means_nothing, means_plus, means_minus, means_times}
 
 tq_positive : 0 < plain_modulus * q

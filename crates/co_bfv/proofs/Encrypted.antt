@@ -6,7 +6,7 @@ use Rattle.rand_core.specs.Stream.{Stream}
 use Rattle.co_math.specs.Parameters.{q, plain_modulus, plain_half, error_bound, fresh_bound}
 use Rattle.co_math.specs.Residues.{residue}
 use Rattle.co_math.specs.Polynomials.{IsWrapped, plus, minus, product}
-use Rattle.co_math.specs.Coefficients.{coefficients, AreBelow, AreResidues, IsDegree}
+use Rattle.co_math.specs.Coefficients.{coefficients, AreBelow, AreResidues, IsDegree, residues_of, signed_coefficients}
 use Rattle.co_math.specs.Meanings.{phase, Means}
 use Rattle.co_math.proofs.Integers.{linear}
 use Rattle.co_math.proofs.Residues.{cong-trans, cong_from, cong-refl}
@@ -18,11 +18,12 @@ use Rattle.co_math.proofs.Noise.{rounding}
 use Rattle.co_math.proofs.Done.{AreFilled}
 use Rattle.co_ring.specs.declared.moduli.Modulus.TheVariants.{Plain}
 use Rattle.co_ring.specs.Polynomials.{Polynomial}
-use Rattle.co_bfv.specs.Lists.{residues_of, signed_coefficients}
 use Rattle.co_bfv.specs.Secrets.{IsSecret}
 use Rattle.co_bfv.specs.Ciphertexts.{Ciphertext, IsCiphertext, ciphertext_degree, MeansWithin}
 use Rattle.co_bfv.specs.Encryptions.{delta, encrypted, opened, decrypted}
-use Rattle.co_bfv.proofs.Listed.{degree_positive, residues_of-are, residues_of-is, length-residues_of, residues_of-agree, plus-IsWrapped, minus-IsWrapped, signed-IsWrapped, signed-small}
+use Rattle.co_math.proofs.Degrees.{degree_positive}
+use Rattle.co_math.proofs.Residue_lists.{residues_of-are, residues_of-is, length-residues_of, residues_of-agree, signed-IsWrapped, signed-small}
+use Rattle.co_math.proofs.Wrapped.{plus-IsWrapped, minus-IsWrapped}
 use Rattle.co_bfv.specs.Draws.{uniform_draw, error_draw, encryption_draw}
 use Rattle.co_bfv.proofs.Drawn.{AreSmall, errors_small}
 use Rattle.co_bfv.proofs.Fresh.{means_fresh}

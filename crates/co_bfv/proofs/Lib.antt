@@ -1,4 +1,4 @@
-pub mod Listed
+pub mod Ternary
 pub mod Meant
 pub mod Fresh
 pub mod Decoded

@@ -5,7 +5,7 @@ use lib.IntN.{nat_abs}
 use lib.Signed.{le_z}
 use mir.Val.{SFits}
 use Rattle.co_math.specs.Residues.{residue}
-use Rattle.co_math.specs.Coefficients.{AreResidues}
+use Rattle.co_math.specs.Coefficients.{AreResidues, residues_of, signed_coefficients}
 use Rattle.co_math.proofs.Residues.{residue_small}
 use Rattle.co_math.proofs.Reduced.{opposite_some}
 use Rattle.co_math.proofs.Done.{AreFilled}
@@ -14,8 +14,7 @@ use Rattle.co_rns.specs.Residue_pairs.{AreResiduesOf}
 use Rattle.co_rns.specs.Pairs.{IsWhole}
 use Rattle.co_rns.proofs.Composing.{all_composed_are}
 use Rattle.co_rns.proofs.Wholes.{split_back}
-use Rattle.co_bfv.specs.Lists.{residues_of, signed_coefficients}
-use Rattle.co_bfv.proofs.Listed.{residues_of-is, signed-low}
+use Rattle.co_math.proofs.Residue_lists.{residues_of-is, signed-low}
 
 pub small_kept : (m : ℕ) (v : ℤ) → 128 < m → SFits w8 v → le_z (pos 0) v ≡ true → nat_abs v ≡ residue m v
 small_kept m (pos a) l f e = sym (residue_small m a (omega (arith, f.sfits)))

@@ -2,12 +2,11 @@
 -- The scheme: Fan and Vercauteren, Somewhat Practical Fully Homomorphic Encryption, 2012.
 use Rattle.std.specs.Prelude.{ℕ, ℤ, pos, ◌≡◌, List, length}
 use Rattle.co_math.specs.Polynomials.{plus, minus, product}
-use Rattle.co_math.specs.Coefficients.{coefficients}
+use Rattle.co_math.specs.Coefficients.{coefficients, residues_of}
 use Rattle.co_math.specs.Meanings.{Means}
 use Rattle.co_math.specs.Parameters.{q, plain_modulus}
 use Rattle.co_rns.specs.Residue_pairs.{centred_coefficients}
 use Rattle.co_rns.specs.Pairs.{IsWhole}
-use Rattle.co_bfv.specs.Lists.{residues_of}
 
 -- c0 and c1, by their coefficients in 0..q-1
 pub record Ciphertext : Type 0 where

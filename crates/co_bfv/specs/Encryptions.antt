@@ -2,10 +2,9 @@
 -- The scheme: Fan and Vercauteren, Somewhat Practical Fully Homomorphic Encryption, 2012.
 use Rattle.std.specs.Prelude.{ℕ, ℤ, ◌+◌, ◌*◌, ◌/◌, ◌%◌, List, map, length}
 use Rattle.co_math.specs.Polynomials.{plus, minus, product}
-use Rattle.co_math.specs.Coefficients.{coefficients}
+use Rattle.co_math.specs.Coefficients.{coefficients, residues_of, signed_coefficients}
 use Rattle.co_math.specs.Meanings.{phase}
 use Rattle.co_math.specs.Parameters.{q, plain_modulus}
-use Rattle.co_bfv.specs.Lists.{residues_of, signed_coefficients}
 use Rattle.co_bfv.specs.Ciphertexts.{Ciphertext, ciphertext_degree}
 
 -- m * q / t, rounded

@@ -1,4 +1,3 @@
-pub mod Lists
 pub mod Secrets
 pub mod Ciphertexts
 pub mod Draws

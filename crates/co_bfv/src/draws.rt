@@ -3,7 +3,7 @@
 ghost use Rattle.std.specs.Prelude.{ℕ, ◌≡◌, ◌<◌, ◌≤◌, length, unsigned_abs, IfOk, OnOk};
 ghost use Rattle.co_math.specs.Parameters.{q, first_modulus, second_modulus};
 ghost use Rattle.co_rns.specs.Residue_pairs.{composed};
-ghost use Rattle.co_bfv.specs.Lists.{residues_of, signed_coefficients};
+ghost use Rattle.co_math.specs.Coefficients.{residues_of, signed_coefficients};
 ghost use Rattle.co_bfv.specs.Draws.{ternary_draw, wide_draw, coefficient_draw, noise_draw};
 ghost use Rattle.co_bfv.specs.Draws.{secret_draw, uniform_draw, error_draw};
 

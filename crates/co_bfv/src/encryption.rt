@@ -2,9 +2,8 @@
 
 ghost use Rattle.std.specs.Prelude.{ℕ, ℤ, ◌≡◌, ◌*◌, ◌<◌, map, length, IfOk, OnOk};
 ghost use Rattle.co_math.specs.Parameters.{q, plain_modulus, fresh_bound};
-ghost use Rattle.co_math.specs.Coefficients.{AreResidues};
+ghost use Rattle.co_math.specs.Coefficients.{AreResidues, signed_coefficients};
 ghost use Rattle.co_ring.specs.Polynomials.{degree_of, polynomial_of};
-ghost use Rattle.co_bfv.specs.Lists.{signed_coefficients};
 ghost use Rattle.co_bfv.specs.Ciphertexts.{MeansWithin, ciphertext_degree};
 ghost use Rattle.co_bfv.specs.Encryptions.{delta, opened, decrypted};
 ghost use Rattle.co_bfv.specs.Draws.{encryption_draw};

@@ -3,8 +3,7 @@
 ghost use Rattle.std.specs.Prelude.{◌≡◌, length, IfOk};
 ghost use Rattle.co_math.specs.Parameters.{q};
 ghost use Rattle.co_math.specs.Polynomials.{product};
-ghost use Rattle.co_math.specs.Coefficients.{coefficients};
-ghost use Rattle.co_bfv.specs.Lists.{residues_of, signed_coefficients};
+ghost use Rattle.co_math.specs.Coefficients.{coefficients, residues_of, signed_coefficients};
 ghost use Rattle.co_bfv.specs.Secrets.{IsSecret};
 
 use crate::signed::residues;

@@ -4,7 +4,7 @@ ghost use Rattle.std.specs.Prelude.{◌≡◌, ◌<◌, length, IfOk};
 ghost use Rattle.co_math.specs.Residues.{residue};
 ghost use Rattle.co_ring.specs.Polynomials.{IsPoly};
 ghost use Rattle.co_math.specs.Parameters.{q};
-ghost use Rattle.co_bfv.specs.Lists.{residues_of, signed_coefficients};
+ghost use Rattle.co_math.specs.Coefficients.{residues_of, signed_coefficients};
 
 use co_ring::{Degree, Modulus, Poly};
 use co_rns::Pair;

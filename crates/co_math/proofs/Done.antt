@@ -1,5 +1,5 @@
 -- Loops that fill a list place by place.
-use Rattle.std.proofs.Common.{◌≡◌, ℕ, ◌+◌, ◌*◌, ◌-◌, ◌<◌, ◌≤◌, refl, sym, ap, subst, ◌∙◌, arith, ℤ, pos, ◌+ℤ◌, ◌-ℤ◌, ◌*ℤ◌, List, [], ◌∷◌, ◌++◌, length, get_or, set, replicate}
+use Rattle.std.proofs.Common.{◌≡◌, ℕ, ◌+◌, ◌*◌, ◌-◌, ◌<◌, ◌≤◌, refl, sym, ap, subst, ◌∙◌, arith, ℤ, pos, ◌+ℤ◌, ◌-ℤ◌, ◌*ℤ◌, List, length, get_or, set, replicate}
 use Rattle.std.proofs.lemmas.Grind.{elements}
 use Rattle.std.proofs.lemmas.List.{get_or-replicate, length-replicate}
 use lib.IntN.{neg_ℤ}
@@ -18,18 +18,8 @@ pub record AreDone (m i : ℕ) (f : ℤ → ℤ) (old new : List ℕ) : Type 0 w
   pub done : (k : ℕ) → k < i → get_or new k 0 ≡ residue m (f (pos k))
   pub rest : (k : ℕ) → i ≤ k → get_or new k 0 ≡ get_or old k 0
 
-pub nothing_done : (m : ℕ) (f : ℤ → ℤ) (xs : List ℕ) → AreDone m 0 f xs xs
-nothing_done m f xs = record { len = refl; done = λ k l. absurd (omega arith); rest = λ k l. refl }
-
 pub one_done : (m i x : ℕ) (f : ℤ → ℤ) (old new : List ℕ) → AreDone m i f old new → i < length new → x ≡ residue m (f (pos i)) → AreDone m (i + 1) f old (set new i x)
 one_done m i x f old new h l e = record { len = grind (arith, elements); done = grind (arith, elements); rest = grind (arith, elements) }
-
-pub all_done : (m i : ℕ) (f : ℤ → ℤ) (old new : List ℕ) → AreDone m i f old new → i ≡ length old → AreResidues m (length old) f new
-all_done m i f old new h e = record { len = h.len; each = λ k l. h.done k (omega arith) }
-
--- what is still there of the beginning is below m
-pub rest_below : (m i : ℕ) (f : ℤ → ℤ) (old new : List ℕ) → AreDone m i f old new → AreBelow m old → i < length new → get_or new i 0 < m
-rest_below m i f old new h b l = subst (λ (v : ℕ). v < m) (sym (h.rest i (omega arith))) (b i (omega (arith, h.len)))
 
 pub plus_done : (m i x : ℕ) (old new other : List ℕ) → AreDone m i (plus (coefficients old) (coefficients other)) old new → length other ≡ length old → i < length new
     → x ≡ residue m (pos (get_or new i 0) +ℤ pos (get_or other i 0)) → AreDone m (i + 1) (plus (coefficients old) (coefficients other)) old (set new i x)
@@ -80,13 +70,6 @@ own_residues m xs b = record { len = refl; each = λ k l. read_low m k xs l (b k
 
 pub residues_below : (m n : ℕ) (f : ℤ → ℤ) (xs : List ℕ) → 0 < m → AreResidues m n f xs → AreBelow m xs
 residues_below m n f xs p h k l = subst (λ (v : ℕ). v < m) (sym (h.each k (omega (arith, h.len)))) (residue-lt m (f (pos k)) p)
-
--- lists that grow
-pub none_pushed : (m : ℕ) (f : ℤ → ℤ) → AreResidues m 0 f []
-none_pushed m f = record { len = refl; each = λ k l. absurd (omega arith) }
-
-pub one_pushed : (m i x : ℕ) (f : ℤ → ℤ) (xs : List ℕ) → AreResidues m i f xs → x ≡ residue m (f (pos i)) → AreResidues m (i + 1) f (xs ++ x ∷ [])
-one_pushed m i x f xs h e = record { len = grind (arith, elements); each = grind (arith, elements) }
 
 -- the first i places of a list of n have the values of f
 pub record AreFilled (n i : ℕ) (f : ℕ → ℕ) (xs : List ℕ) : Type 0 where

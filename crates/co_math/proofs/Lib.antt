@@ -1,4 +1,7 @@
 pub mod Integers
+pub mod Logarithms
+pub mod Degrees
+pub mod Wrapped
 pub mod Totals
 pub mod Residues
 pub mod Periods
@@ -35,3 +38,5 @@ pub mod Substituting
 pub mod Uniqueness
 pub mod Algebra
 pub mod Pigeons
+pub mod Residue_lists
+pub mod Digits

@@ -14,15 +14,6 @@ rounding m =
     let r = mod-lt (2 * q * m + plain_modulus) {m = (2 * plain_modulus)} (omega arith) in
     omega (arith, linear, abs_is (pos plain_modulus *ℤ pos x -ℤ pos q *ℤ pos m))
 
--- for any odd t = 2h + 1
-pub rounding_any : (q h m : ℕ) → unsigned_abs (pos (2 * h + 1) *ℤ pos ((2 * q * m + (2 * h + 1)) / (2 * (2 * h + 1))) -ℤ pos q *ℤ pos m) ≤ h
-rounding_any q h m =
-    let t = 2 * h + 1 in
-    let x = (2 * q * m + t) / (2 * t) in
-    let d = div-add-mod' (2 * q * m + t) (2 * t) in
-    let r = mod-lt (2 * q * m + t) {m = 2 * t} (omega arith) in
-    omega (arith, linear, abs_is (pos t *ℤ pos x -ℤ pos q *ℤ pos m))
-
 -- t * phase is q * m + e + t q u, where e is small: the rounded quotient is m + t u
 rounded : (t q p m b : ℕ) (u : ℕ) (e : ℤ) → 0 < q → pos (t * p) ≡ pos (q * m) +ℤ e +ℤ pos (t * q * u) → unsigned_abs e ≤ b → 2 * b < q → (2 * t * p + q) / (2 * q) ≡ m + t * u
 rounded t q p m b u e z h f g =

@@ -1,8 +1,7 @@
 -- Writes to the places of a substitution.
-use Rattle.std.proofs.Common.{◌≡◌, ℕ, suc, ◌^◌, ◌+◌, ◌*◌, ◌-◌, ◌%◌, ◌/◌, ◌<◌, ◌≤◌, ◌≢◌, sym, ap, subst, ◌∙◌, ⊎_elim, arith, ℤ, pos, ◌+ℤ◌, ◌*ℤ◌, List, length, get_or, set}
+use Rattle.std.proofs.Common.{◌≡◌, ℕ, ◌+◌, ◌*◌, ◌-◌, ◌%◌, ◌/◌, ◌<◌, ◌≤◌, ◌≢◌, sym, ap, subst, ◌∙◌, ⊎_elim, arith, ℤ, pos, ◌+ℤ◌, ◌*ℤ◌, List, length, get_or, set}
 use Rattle.std.proofs.lemmas.Bool.{cases_lt, cases_eq}
 use Rattle.std.proofs.lemmas.List.{length-set, get_or-set_other, get_or-set_same}
-use Rattle.std.proofs.lemmas.Nat.{pow_pos}
 use Rattle.std.proofs.Math.Nat.{mod-lt, div-add-mod'}
 use lib.IntN.{neg_ℤ}
 use Rattle.co_math.specs.Residues.{residue, Congruent}
@@ -15,19 +14,9 @@ use Rattle.co_math.proofs.Periods.{period-congruent}
 use Rattle.co_math.proofs.Substitutions.{wrapped_period}
 use Rattle.co_math.proofs.Spreads.{spread-low, spread-IsWrapped}
 use Rattle.co_math.proofs.Inverses.{odd_has_inverse}
-use Rattle.co_math.specs.Coefficients.{coefficients, AreBelow, IsDegree, IsSubstituted}
+use Rattle.co_math.proofs.Degrees.{IsPowerOfTwo}
+use Rattle.co_math.specs.Coefficients.{coefficients, AreBelow}
 use Rattle.co_math.proofs.Terms.{coefficient-low}
-
--- n is 2, 4, 8 ..
-pub record IsPowerOfTwo (n : ℕ) : Type 0 where
-  pub exponent : ℕ
-  pub is : n ≡ 2 ^ suc exponent
-
-pub power_of_two : (n : ℕ) → IsDegree n → IsPowerOfTwo n
-power_of_two n d = record { exponent = d.exponent - 1; is = d.is ∙ ap (λ e. 2 ^ e) (omega (arith, d.least)) }
-
-pub degree_positive : (n : ℕ) → IsDegree n → 0 < n
-degree_positive n d = omega (arith, d.is, pow_pos d.exponent)
 
 -- two polynomials agree at z where their coefficients agree at its place
 pub spread-agree : (n : ℕ) (c d : ℕ → ℤ) (z : ℤ) → 0 < n → c (residue n z) ≡ d (residue n z) → spread n c z ≡ spread n d z
@@ -145,15 +134,9 @@ place_next g i t p r z e f =
     (cong-trans t (cong-add t (cong-trans t (cong_from t (ap pos e)) (mod-is t (g * i) z)) (cong-refl t (pos g))) (cong_from t (ap pos (omega arith))))
     ∙ sym (remainder-is t (g * (i + 1)))
 
-pub nothing_placed : (m g : ℕ) (a into : List ℕ) → ArePlaced m g 0 a into
-nothing_placed m g a into = record { places = λ j l. absurd (omega arith) }
-
 -- what is below m stays so
 pub set_below : (m i x : ℕ) (xs : List ℕ) → AreBelow m xs → x < m → AreBelow m (set xs i x)
 set_below m i x xs h l k u = ⊎_elim
     (λ e. subst (λ (v : ℕ). v < m) (sym (ap (λ j. get_or (set xs i x) j 0) e ∙ get_or-set_same xs i x 0 (omega (arith, length-set xs i x)))) l)
     (λ ne. subst (λ (v : ℕ). v < m) (sym (get_or-set_other xs i k x 0 ne)) (h k (omega (arith, length-set xs i x))))
     (cases_eq k i)
-
-pub all_placed : (m g n : ℕ) (a into : List ℕ) → length into ≡ length a → n ≡ length a → AreBelow m into → ArePlaced m g n a into → IsSubstituted m g a into
-all_placed m g n a into l e b p = record { len = l; below = b; at = λ k u. p.places k (omega arith) }

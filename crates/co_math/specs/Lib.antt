@@ -7,5 +7,8 @@ pub mod Values
 pub mod Exponents
 pub mod Meanings
 pub mod Expansions
+pub mod Degrees
 pub mod Coefficients
+pub mod Digits
+pub mod Logarithms
 pub mod Bounds

@@ -2,7 +2,7 @@
 //!
 //! `specs` has the definitions: residues and congruence, sums over a range, polynomials
 //! modulo X^n + 1 as antiperiodic functions on the integers, lists of coefficients, powers
-//! and roots, values, centred numbers and noise, and the numbers of the scheme.
+//! and roots, values, digits, logarithms, centred numbers and noise, and the numbers of the scheme.
 //! `proofs` has the laws: of sums (split, shift, reverse, exchange, re-index), of the ring
 //! (product, substitution, bounds), of roots and values, and that contracts on lists of
 //! residues have one list.
@@ -12,3 +12,6 @@
 
 pub mod laws;
 pub mod parameters;
+mod sizes;
+
+pub use sizes::{is_degree, log2_up};

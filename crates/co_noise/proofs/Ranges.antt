@@ -5,43 +5,13 @@ use Rattle.std.proofs.lemmas.Bool.{eqb-true, leb-true}
 use Rattle.std.specs.Int.{div_ceil}
 use Rattle.std.proofs.lemmas.Grind.{div_ceil_times}
 use Rattle.std.proofs.Math.Nat.{mul-le-mul, mul-le-mul_left, mul-le-mul_right, pow-le-pow_right}
-use Rattle.co_math.specs.Coefficients.{IsDegree}
-use Rattle.co_noise.specs.Shapes.{Numbers, HasRanges, is_degree, is_within, is_chunk_count, are_in_range}
+use Rattle.co_math.specs.Degrees.{is_degree}
+pub use Rattle.co_math.proofs.Degrees.{degree_ranges}
+use Rattle.co_noise.specs.Shapes.{Numbers, HasRanges, is_within, is_chunk_count, are_in_range}
 
 pub both : (a b : Bool) → IsTrue (a && b) → IsTrue a × IsTrue b
 both true b h = (refl, h)
 both false b h = absurd cc
-
-either : (a b : Bool) → IsTrue (a || b) → IsTrue a ⊎ IsTrue b
-either true b h = inl refl
-either false b h = inr h
-
--- what a degree tells
-pub record Degree (n : ℕ) : Type 0 where
-  pub degree : IsDegree n
-  pub low : 16 ≤ n
-  pub high : n ≤ 4096
-  pub even : 2 * (n / 2) ≡ n
-
-power_degree : (n d e : ℕ) → 4 ≤ e → e ≤ 12 → d ≡ 2 ^ e → 16 ≤ d → d ≤ 4096 → 2 * (d / 2) ≡ d → IsTrue (n == d) → Degree n
-power_degree n d e least most is low high even h =
-    subst Degree (sym (eqb-true n d h)) (record { degree = record { exponent = e; least = least; most = most; is = is }; low = low; high = high; even = even })
-
-last : (n d e : ℕ) (b : Bool) → 4 ≤ e → e ≤ 12 → d ≡ 2 ^ e → 16 ≤ d → d ≤ 4096 → 2 * (d / 2) ≡ d → (IsTrue b → Degree n) → IsTrue (b || (n == d)) → Degree n
-last n d e b least most is low high even before h = elim (either b (n == d) h) [ inl x ↦ before x | inr x ↦ power_degree n d e least most is low high even x ]
-
-pub degree_ranges : (n : ℕ) → IsTrue (is_degree n) → Degree n
-degree_ranges n h =
-    last n 4096 12 _ (omega arith) (omega arith) refl (omega arith) (omega arith) refl (
-    last n 2048 11 _ (omega arith) (omega arith) refl (omega arith) (omega arith) refl (
-    last n 1024 10 _ (omega arith) (omega arith) refl (omega arith) (omega arith) refl (
-    last n 512 9 _ (omega arith) (omega arith) refl (omega arith) (omega arith) refl (
-    last n 256 8 _ (omega arith) (omega arith) refl (omega arith) (omega arith) refl (
-    last n 128 7 _ (omega arith) (omega arith) refl (omega arith) (omega arith) refl (
-    last n 64 6 _ (omega arith) (omega arith) refl (omega arith) (omega arith) refl (
-    last n 32 5 _ (omega arith) (omega arith) refl (omega arith) (omega arith) refl (
-    power_degree n 16 4 (omega arith) (omega arith) refl (omega arith) (omega arith) refl))))))))
-    h
 
 below : (a b : ℕ) → IsTrue (nat_le a b) → a ≤ b
 below a b h = leb-true a b h

@@ -2,7 +2,8 @@
 use Rattle.std.specs.Prelude.{ℕ, ◌+◌, ◌-◌, ◌*◌, ◌/◌, ◌^◌, ◌≤◌, ◌<◌, nat_le, nat_lt, if◌then◌else◌, Result, Ok, Err}
 use Rattle.co_math.specs.Parameters.{q}
 use Rattle.co_math.specs.Bounds.{plain_half, fresh_bound, switch_bound}
-use Rattle.co_noise.specs.Shapes.{Numbers, log2_up, keyword_blocks}
+use Rattle.co_noise.specs.Shapes.{Numbers, keyword_blocks}
+use Rattle.co_math.specs.Logarithms.{log2_up}
 use Rattle.co_noise.specs.declared.testing.TestFault.{TestFault}
 use Rattle.co_noise.specs.declared.testing.TestFault.TheVariants.{RowsOverDegree, Score, Records, Bins}
 

@@ -1,7 +1,9 @@
 -- A library's published numbers, and what follows from them.
-use Rattle.std.specs.Prelude.{◌≡◌, ℕ, zero, suc, ◌+◌, ◌*◌, ◌/◌, ◌^◌, ◌≤◌, ◌<◌, Bool, ◌&&◌, ◌||◌, ◌==◌, nat_le, max, if◌then◌else◌, Option, Some, None}
+use Rattle.std.specs.Prelude.{◌≡◌, ℕ, ◌*◌, ◌/◌, ◌^◌, ◌≤◌, ◌<◌, Bool, ◌&&◌, nat_le, max, if◌then◌else◌, Option, Some, None}
 use Rattle.std.specs.Int.{div_ceil}
-use Rattle.co_math.specs.Coefficients.{IsDegree}
+pub use Rattle.co_math.specs.Degrees.{IsDegree, is_degree}
+pub use Rattle.co_math.specs.Logarithms.{log2_up}
+use Rattle.co_noise.specs.Limits.{most_documents, most_terms, most_hits, most_rows, most_bins, most_chunks, most_bin}
 
 -- the eight published numbers, in the order of the published bytes
 pub record Numbers : Type 0 where
@@ -25,18 +27,14 @@ numbers degree documents terms hits salt rows bins chunks =
 abbrev pub is_within : ℕ → ℕ → ℕ → Bool
 is_within low high n = nat_le low n && nat_le n high
 
--- a power of two from 16 to 4096
-abbrev pub is_degree : ℕ → Bool
-is_degree n = n == 16 || n == 32 || n == 64 || n == 128 || n == 256 || n == 512 || n == 1024 || n == 2048 || n == 4096
-
--- a chunk is the payload of one polynomial, 2 * degree bytes, and a bin has at most 4,194,304 bytes
+-- a chunk is the payload of one polynomial, 2 * degree bytes, and a bin has at most so many bytes
 abbrev pub is_chunk_count : ℕ → ℕ → Bool
-is_chunk_count degree chunks = is_within 1 131072 chunks && nat_le (chunks * (2 * degree)) 4194304
+is_chunk_count degree chunks = is_within 1 most_chunks chunks && nat_le (chunks * (2 * degree)) most_bin
 
 -- each number is in its range
 abbrev pub are_in_range : Numbers → Bool
-are_in_range s = is_degree s.degree && is_within 1 65536 s.documents && is_within 0 131072 s.terms && is_within 1 64 s.hits
-    && is_within 0 4294967295 s.salt && is_within 1 65536 s.rows && is_within 1 65536 s.bins && is_chunk_count s.degree s.chunks
+are_in_range s = is_degree s.degree && is_within 1 most_documents s.documents && is_within 0 most_terms s.terms && is_within 1 most_hits s.hits
+    && is_within 0 4294967295 s.salt && is_within 1 most_rows s.rows && is_within 1 most_bins s.bins && is_chunk_count s.degree s.chunks
 
 -- the numbers where each is in its range, else nothing
 abbrev pub shape_of : Numbers → Option Numbers
@@ -49,29 +47,20 @@ pub record HasRanges (s : Numbers) : Type 0 where
   pub degree_high : s.degree ≤ 4096
   pub degree_even : 2 * (s.degree / 2) ≡ s.degree
   pub documents_low : 1 ≤ s.documents
-  pub documents_high : s.documents ≤ 65536
-  pub terms_high : s.terms ≤ 131072
+  pub documents_high : s.documents ≤ most_documents
+  pub terms_high : s.terms ≤ most_terms
   pub hits_low : 1 ≤ s.hits
-  pub hits_high : s.hits ≤ 64
+  pub hits_high : s.hits ≤ most_hits
   pub salt_high : s.salt < 2 ^ 32
   pub rows_low : 1 ≤ s.rows
-  pub rows_high : s.rows ≤ 65536
+  pub rows_high : s.rows ≤ most_rows
   pub bins_low : 1 ≤ s.bins
-  pub bins_high : s.bins ≤ 65536
+  pub bins_high : s.bins ≤ most_bins
   pub chunks_low : 1 ≤ s.chunks
-  pub chunks_high : s.chunks ≤ 131072
-  pub bin_high : s.chunks * (2 * s.degree) ≤ 4194304
+  pub chunks_high : s.chunks ≤ most_chunks
+  pub bin_high : s.chunks * (2 * s.degree) ≤ most_bin
 
 -- ---- derived numbers
-
--- of the places from `at` on, `more` of them and one further, the first that passes, or the last
-unfoldable pub least : (ℕ → Bool) → ℕ → ℕ → ℕ
-least p at zero = at
-least p at (suc more) = if p at then at else least p (at + 1) more
-
--- the least l with n ≤ 2 ^ l, for an n up to 2 ^ 16
-unfoldable pub log2_up : ℕ → ℕ
-log2_up n = least (λ l. nat_le n (2 ^ l)) 0 16
 
 -- how many blocks of half a degree hold the terms, at least one
 unfoldable pub keyword_blocks : Numbers → ℕ

@@ -3,10 +3,12 @@
 ghost use Rattle.std.specs.Prelude.{◌≡◌, ◌<◌, ◌^◌, IsTrue};
 ghost use Rattle.co_math.specs.Parameters.{q};
 ghost use Rattle.co_math.specs.Bounds as parameter_bounds;
+ghost use Rattle.co_noise.specs.Limits.{most_rows};
 ghost use Rattle.co_noise.specs.Shapes.{is_degree, is_within};
 ghost use Rattle.co_noise.specs.Bounds as bounds;
 
-use crate::shape::{Shape, log2_up};
+use crate::shape::Shape;
+use co_math::log2_up;
 use co_math::parameters::{CIPHER_MODULUS, DIGIT_BASE, DIGIT_COUNT, ERROR_BOUND, PLAIN_MODULUS};
 
 /// The greatest absolute value of a centred number modulo t.
@@ -53,7 +55,7 @@ pub fn score_bound(shape: &Shape) -> u128
 #[tactic(auto, unfolding(crate::specs::Bounds::retrieve_bound))]
 pub fn retrieve_bound(degree: u32, rows: u32) -> u128
     requires degree { IsTrue (is_degree degree) }
-    requires rows { IsTrue (is_within 1 65536 rows) }
+    requires rows { IsTrue (is_within 1 most_rows rows) }
     ensures value { result ≡ bounds.retrieve_bound degree rows }
     ensures small { result < 2 ^ 112 }
 {

@@ -9,9 +9,14 @@
 #![tactic(auto)]
 
 mod bounds;
+pub mod laws;
+pub mod limits;
 mod shape;
 mod testing;
+#[cfg(test)]
+mod tests;
 
 pub use bounds::{fresh_bound, modulus, retrieve_bound, score_bound, switch_bound};
-pub use shape::{Shape, is_chunk_count, is_degree, log2_up};
+pub use co_math::{is_degree, log2_up};
+pub use shape::{Shape, is_chunk_count};
 pub use testing::{TestFault, Tested, test};

@@ -1,21 +1,33 @@
 // The published numbers of a library, and the numbers that follow from them.
 
-ghost use Rattle.std.specs.Prelude.{◌≡◌, ◌≤◌, ◌<◌, ◌^◌, IsTrue, nat_le};
+ghost use Rattle.std.specs.Prelude.{◌≡◌, ◌≤◌, IsTrue};
 ghost use Rattle.co_noise.specs.Shapes.{numbers, are_in_range, HasRanges, shape_of, keyword_blocks, document_blocks, levels};
 ghost use Rattle.co_noise.specs.Shapes as shapes;
 
+use crate::limits::{
+    MOST_BIN_BYTES, MOST_BINS, MOST_CHUNKS, MOST_DOCUMENTS, MOST_HITS, MOST_ROWS, MOST_TERMS,
+};
+use co_math::{is_degree, log2_up};
 use std::marker::Model;
 
 /// The eight numbers that a library publishes, each in its range.
 #[derive(Clone, Copy, Debug)]
 pub struct Shape {
+    /// How many coefficients a polynomial has: a power of two from 16 to 4096.
     degree: u32,
+    /// How many documents the library has: 1 to `MOST_DOCUMENTS`.
     documents: u32,
+    /// How many terms the vocabulary has: 0 to `MOST_TERMS`.
     terms: u32,
+    /// How many hits a search gives at most: 1 to `MOST_HITS`.
     hits: u32,
+    /// What the buckets of a document are hashed with: any number.
     salt: u32,
+    /// How many rows of records a bucket has: 1 to `MOST_ROWS`.
     rows: u32,
+    /// How many bins hold the texts: 1 to `MOST_BINS`.
     bins: u32,
+    /// How many chunks, of twice the degree in bytes each, a bin has.
     chunks: u32,
 }
 
@@ -32,47 +44,18 @@ impl Model for Shape {
     ghost inverse = { λ s. record { degree = s.degree; documents = s.documents; terms = s.terms; hits = s.hits; salt = s.salt; rows = s.rows; bins = s.bins; chunks = s.chunks } };
 }
 
-/// Whether a polynomial may have so many coefficients: a power of two from 16 to 4096.
-pub fn is_degree(n: u32) -> bool
-    ensures { result ≡ shapes.is_degree n }
-{
-    matches!(n, 16 | 32 | 64 | 128 | 256 | 512 | 1024 | 2048 | 4096)
-}
-
-/// Whether a bin may have so many chunks: 1 to 131,072, and at most 4,194,304 bytes.
+/// Whether a bin may have so many chunks: at least one, at most `MOST_CHUNKS` chunks and `MOST_BIN_BYTES` bytes.
 pub fn is_chunk_count(degree: u32, chunks: u32) -> bool
     ensures { result ≡ shapes.is_chunk_count degree chunks }
 {
-    is_within(1, 131_072, chunks) && chunks as u64 * (2 * degree as u64) <= 4_194_304
+    is_within(1, MOST_CHUNKS, chunks)
+        && chunks as u64 * (2 * degree as u64) <= MOST_BIN_BYTES as u64
 }
 
 fn is_within(low: u32, high: u32, n: u32) -> bool
     ensures { result ≡ shapes.is_within low high n }
 {
     low <= n && n <= high
-}
-
-/// The least `l` with `n <= 2^l`.
-#[tactic(auto, unfolding(crate::specs::Shapes::log2_up))]
-pub fn log2_up(n: u32) -> u32
-    requires { n ≤ 65536 }
-    ensures value { result ≡ shapes.log2_up n }
-    ensures few { result ≤ 16 }
-{
-    for level in 0..16 {
-        if reaches(level, n) {
-            return level;
-        }
-    }
-    16
-}
-
-/// Whether `n <= 2^level`.
-fn reaches(level: u32, n: u32) -> bool
-    requires { level < 16 }
-    ensures { result ≡ nat_le n (2 ^ level) }
-{
-    n <= 1 << level
 }
 
 impl Shape {
@@ -90,12 +73,12 @@ impl Shape {
         ensures { result ≡ shape_of (numbers degree documents terms hits salt rows bins chunks) }
     {
         let good = is_degree(degree)
-            && is_within(1, 65_536, documents)
-            && is_within(0, 131_072, terms)
-            && is_within(1, 64, hits)
+            && is_within(1, MOST_DOCUMENTS, documents)
+            && is_within(0, MOST_TERMS, terms)
+            && is_within(1, MOST_HITS, hits)
             && is_within(0, u32::MAX, salt)
-            && is_within(1, 65_536, rows)
-            && is_within(1, 65_536, bins)
+            && is_within(1, MOST_ROWS, rows)
+            && is_within(1, MOST_BINS, bins)
             && is_chunk_count(degree, chunks);
         if !good {
             return None;
@@ -122,6 +105,7 @@ impl Shape {
         self.degree
     }
 
+    /// How many documents the library has.
     pub fn documents(&self) -> u32
         ensures { result ≡ self.now.documents }
     {
@@ -156,6 +140,7 @@ impl Shape {
         self.rows
     }
 
+    /// How many bins hold the texts.
     pub fn bins(&self) -> u32
         ensures { result ≡ self.now.bins }
     {
@@ -195,59 +180,5 @@ impl Shape {
     {
         let _degree = self.degree();
         log2_up(self.rows).max(log2_up(self.bins))
-    }
-}
-
-#[cfg(test)]
-mod tests {
-    use super::Shape;
-
-    #[test]
-    fn numbers_out_of_range(rt: HostRuntime) {
-        for numbers in [
-            [8, 1, 5, 1, 1, 1, 1],
-            [24, 1, 5, 1, 1, 1, 1],
-            [16_384, 1, 5, 1, 1, 1, 1],
-            [16, 0, 5, 1, 1, 1, 1],
-            [16, 65_537, 5, 1, 1, 1, 1],
-            [64, 1, 131_073, 1, 1, 1, 1],
-            [64, 1, 5, 0, 1, 1, 1],
-            [64, 1, 5, 65, 1, 1, 1],
-            [16, 1, 5, 1, 0, 1, 1],
-            [32, 1, 5, 1, 1, 65_537, 1],
-            [32, 1, 5, 1, 1, 1, 0],
-            [32, 1, 5, 1, 1, 1, 65_537],
-        ] {
-            let [degree, documents, terms, hits, rows, bins, chunks] = numbers;
-            let shape = Shape::new(degree, documents, terms, hits, u32::MAX, rows, bins, chunks);
-            assert!(rt;
-                shape.is_none(),
-                "at {degree} {documents} {terms} {hits} {rows} {bins} {chunks}"
-            );
-        }
-    }
-
-    #[test]
-    fn derived_numbers(rt: HostRuntime) {
-        for (numbers, derived) in [
-            ([16, 17, 9, 1, 8, 16, 1], [2, 2, 4]),
-            ([32, 600, 300, 16, 20, 31, 3], [19, 19, 5]),
-            (
-                [16, 65_536, 131_072, 64, 17, 4096, 131_072],
-                [16_384, 4096, 12],
-            ),
-        ] {
-            let [degree, documents, terms, hits, rows, bins, chunks] = numbers;
-            let shape = Shape::new(degree, documents, terms, hits, 0, rows, bins, chunks);
-            assert!(rt; shape.is_some(), "at {degree}");
-            if let Some(shape) = shape {
-                let found = [
-                    shape.keyword_blocks(),
-                    shape.document_blocks(),
-                    shape.levels(),
-                ];
-                assert!(rt; found == derived, "at {degree}");
-            }
-        }
     }
 }

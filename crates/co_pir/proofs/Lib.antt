@@ -1,4 +1,3 @@
-pub mod Logarithms
 pub mod Inverse
 pub mod Rising
 pub mod Meant

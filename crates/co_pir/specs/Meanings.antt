@@ -4,7 +4,7 @@ use Rattle.co_math.specs.Polynomials.{IsWrapped}
 use Rattle.co_math.specs.Bounds.{fresh_bound, switch_bound}
 use Rattle.co_math.specs.Coefficients.{coefficients, AreBelow}
 use Rattle.co_ring.specs.Polynomials.{polynomial_of}
-use Rattle.co_noise.specs.Shapes.{log2_up}
+use Rattle.co_math.specs.Logarithms.{log2_up}
 use Rattle.co_bfv.specs.Ciphertexts.{Ciphertext, ciphertext_degree, MeansWithin}
 use Rattle.co_switch.specs.Keys.{Keys, IsGoodKey}
 use Rattle.co_pir.specs.Messages.{query_polynomial}

@@ -8,7 +8,7 @@ use Rattle.co_math.specs.Coefficients.{coefficients, AreBelow, AreResidues, IsSu
 use Rattle.co_math.proofs.Residues.{cong-refl, cong-trans, cong-sym, cong-mul, cong_from, residue_small, residue-same}
 use Rattle.co_math.proofs.Reduced.{remainder-is}
 use Rattle.co_math.proofs.Agreements.{coefficients_agree, residues_for, Agree, plus_agree, minus_agree, shifted_agree, product_agree}
-use Rattle.co_math.proofs.Places.{degree_positive}
+use Rattle.co_math.proofs.Degrees.{degree_positive}
 use Rattle.co_math.proofs.Done.{AreFilled}
 use Rattle.co_ring.specs.declared.moduli.Modulus.{Modulus}
 use Rattle.co_ring.specs.declared.moduli.Modulus.TheVariants.{First, Second}

@@ -17,7 +17,8 @@ use Rattle.co_math.proofs.Geometric.{minus_odd}
 use Rattle.co_math.proofs.Values.{value-congruent}
 use Rattle.co_math.proofs.Evaluations.{value-product}
 use Rattle.co_math.proofs.Substitutions.{value-substituted, power-period}
-use Rattle.co_math.proofs.Places.{coefficients-IsWrapped, degree_positive, power_of_two}
+use Rattle.co_math.proofs.Places.{coefficients-IsWrapped}
+use Rattle.co_math.proofs.Degrees.{degree_positive, power_of_two}
 use Rattle.co_math.proofs.Substituting.{odd_inverse, substituted_agree}
 use Rattle.co_math.proofs.Uniqueness.{below_same}
 use Rattle.co_math.proofs.Agreements.{Agree}

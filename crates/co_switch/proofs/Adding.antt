@@ -4,8 +4,8 @@ use Rattle.std.proofs.lemmas.List.{ext_get_or}
 use Rattle.co_math.specs.Parameters.{q, digit_base, digit_count}
 use Rattle.co_math.specs.Residues.{Congruent, residue}
 use Rattle.co_math.specs.Sums.{total}
-use Rattle.co_math.specs.Coefficients.{coefficients, AreResidues, IsSubstituted, IsDegree}
-use Rattle.co_math.specs.Polynomials.{IsWrapped, product, plus, minus, substituted}
+use Rattle.co_math.specs.Coefficients.{coefficients, AreResidues, IsSubstituted, IsDegree, residues_of}
+use Rattle.co_math.specs.Polynomials.{IsWrapped, product, plus, minus, substituted, substitution}
 use Rattle.co_math.proofs.Integers.{linear, expand}
 use Rattle.co_math.proofs.Residues.{cong-refl, cong_from, cong-trans, cong-sym, cong-add, cong-neg, residue-is}
 use Rattle.co_math.proofs.Reduced.{reduced_as, residue_of}
@@ -16,68 +16,13 @@ use Rattle.co_math.proofs.Places.{coefficients-IsWrapped}
 use Rattle.co_math.proofs.Agreements.{residues_for, wrapped_agree}
 use Rattle.co_math.proofs.Substitutions.{wrapped_period, substituted-IsWrapped}
 use Rattle.co_rns.specs.Residue_pairs.{AreDigits}
-use Rattle.co_bfv.specs.Lists.{residues_of}
-use Rattle.co_bfv.proofs.Listed.{degree_positive, residues_of-are, residues_of-is, length-residues_of}
+use Rattle.co_math.proofs.Degrees.{degree_positive}
+use Rattle.co_math.proofs.Residue_lists.{residues_of-are, residues_of-is, length-residues_of}
 use Rattle.co_bfv.specs.Ciphertexts.{Ciphertext, IsCiphertext, ciphertext_degree}
 use Rattle.co_switch.specs.Keys.{Key, part}
-use Rattle.co_switch.specs.Substitutions.{substitution}
 use Rattle.co_switch.specs.Switches.{digit_polynomial, digit_sum, carried, switched}
-use Rattle.co_switch.proofs.Substituting.{Inverse, inverse_of, substitution-is, back_around, odd_half}
+use Rattle.co_math.proofs.Substituting.{Inverse, inverse_of, substitution-is, back_around, odd_half}
 use Rattle.co_switch.proofs.Digitwise.{length-digit_polynomial, digit-at}
-
--- polynomials that agree modulo m have the same residues
-pub residues_of-same : (m n : ℕ) (f g : ℤ → ℤ) → 0 < m → ((k : ℕ) → k < n → Congruent m (f (pos k)) (g (pos k))) → residues_of m n f ≡ residues_of m n g
-residues_of-same m n f g p h = residues_of-is m n g (residues_of m n f) (residues_for m n f g (residues_of m n f) p h (residues_of-are m n f))
-
--- a list of residues is congruent to its polynomial
-pub residues_of-at : (m n : ℕ) (f : ℤ → ℤ) (xs : List ℕ) (k : ℕ) → 0 < m → xs ≡ residues_of m n f → k < n → Congruent m (coefficients xs (pos k)) (f (pos k))
-residues_of-at m n f xs k p e l =
-    let h = subst (AreResidues m n f) (sym e) (residues_of-are m n f) in
-    cong-trans m (cong_from m (coefficient-low xs k (omega (arith, h.len)))) (residue_of m (get_or xs k 0) (f (pos k)) p (h.each k l))
-
-substituted_at : (g : ℕ) (a : ℤ → ℤ) (x : ℤ) (k : ℕ) → Congruent q (a (pos g *ℤ pos k)) x → Congruent q (substituted (pos g) a (pos k)) x
-unfolding substituted
-substituted_at g a x k c = c
-
-turned : (g : ℕ) (a b : ℤ → ℤ) (k : ℤ) → Congruent q (substituted (pos g) a k) (b k) → Congruent q (a (pos g *ℤ k)) (b k)
-unfolding substituted
-turned g a b k c = c
-
-by_inverse : (h : ℤ) (a : ℤ → ℤ) (k : ℤ) → a (h *ℤ k) ≡ substituted h a k
-unfolding substituted
-by_inverse h a k = refl
-
--- what `substitute` writes is the substitution
-pub substituted_is : (g : ℕ) (xs ys : List ℕ) → IsDegree (length xs) → g % 2 ≡ 1 → IsSubstituted q g xs ys → ys ≡ carried g xs
-unfolding carried
-substituted_is g xs ys d odd s =
-    residues_of-is q n (substitution n g (coefficients xs)) ys
-    (record { len = s.len; each = λ k l. reduced_as q (get_or ys k 0) (substitution n g (coefficients xs) (pos k)) (s.below k (omega (arith, s.len))) (at k l) })
-  where
-    n : ℕ
-    n = length xs
-
-    z : 0 < n
-    z = degree_positive n d
-
-    i : Inverse n g
-    i = inverse_of n g d odd
-
-    wx : IsWrapped n (coefficients xs)
-    wx = coefficients-IsWrapped xs z
-
-    wy : IsWrapped n (coefficients ys)
-    wy = subst (λ (k : ℕ). IsWrapped k (coefficients ys)) s.len (coefficients-IsWrapped ys (omega (arith, s.len, z)))
-
-    all : (k : ℤ) → Congruent q (substituted (pos g) (coefficients ys) k) (coefficients xs k)
-    all = wrapped_agree q n (substituted (pos g) (coefficients ys)) (coefficients xs) z
-        (substituted-IsWrapped n (pos g) (pos (g / 2)) (coefficients ys) wy (odd_half g odd ∙ omega (arith, linear))) wx (λ k l. substituted_at g (coefficients ys) (coefficients xs (pos k)) k (s.at k l))
-
-    at : (k : ℕ) → k < n → Congruent q (pos (get_or ys k 0)) (substitution n g (coefficients xs) (pos k))
-    at k l =
-        cong-trans q (cong_from q (sym (coefficient-low ys k (omega (arith, s.len))) ∙ period-congruent (n + n) (coefficients ys) (wrapped_period n (coefficients ys) wy) (cong-sym (n + n) (back_around n g z odd i (pos k)))))
-        (cong-trans q (turned g (coefficients ys) (coefficients xs) (i.by *ℤ pos k) (all (i.by *ℤ pos k)))
-        (cong_from q (by_inverse i.by (coefficients xs) (pos k) ∙ sym (substitution-is n g z odd i (coefficients xs) wx (pos k)))))
 
 -- what `digit` writes is the polynomial of the digits
 pub digit_is : (j : ℕ) (xs ds : List ℕ) → AreDigits digit_base j xs ds → ds ≡ digit_polynomial j xs

@@ -8,44 +8,11 @@ use Rattle.std.specs.Prelude.{nat_le}
 use mathlib.Core.Bool.{true≢false}
 use Rattle.co_math.specs.Parameters.{least_exponent, most_exponent}
 use Rattle.co_math.specs.Coefficients.{IsDegree}
-use Rattle.co_noise.specs.Shapes.{Numbers, least, log2_up, levels, HasRanges}
+use Rattle.co_noise.specs.Shapes.{Numbers, levels, HasRanges}
+use Rattle.co_math.specs.Logarithms.{least, log2_up}
+use Rattle.co_math.proofs.Logarithms.{log2_up-le, log2_up-pow}
 use Rattle.co_noise.specs.Bounds.{HasRoom}
 use Rattle.co_switch.specs.Keys.{rotation_element, expansion_element}
-
--- ---- logarithms
-
--- where some place passes, the least one does, and is no later
-record IsLeast (p : ℕ → Bool) (at more l : ℕ) : Type 0 where
-  pub most : least p at more ≤ l
-  pub passes : p (least p at more) ≡ true
-
-here : (p : ℕ → Bool) (at more l : ℕ) (b : Bool) → p at ≡ b → at ≤ l → (p at ≡ false → IsLeast p (at + 1) more l) → IsLeast p at (suc more) l
-unfolding least
-here p at more l true e low rest = record { most = rw e low; passes = rw e e }
-here p at more l false e low rest = let r = rest e in record { most = rw e r.most; passes = rw e r.passes }
-
-found : (p : ℕ → Bool) (at more l : ℕ) → at ≤ l → l ≤ at + more → p l ≡ true → IsLeast p at more l
-unfolding least
-found p at zero l low high h =
-    let e : at ≡ l = omega arith in
-    record { most = low; passes = ap p e ∙ h }
-found p at (suc more) l low high h =
-    here p at more l (p at) refl low
-    (λ e. found p (at + 1) more l (⊎_elim (λ u. omega arith) (λ u. let same : l ≡ at = omega arith in absurd (true≢false (sym h ∙ ap p same ∙ e))) (cases_lt at l)) (omega arith) h)
-
-pub log2_up-le : (n l : ℕ) → l ≤ 16 → n ≤ 2 ^ l → log2_up n ≤ l
-unfolding log2_up
-log2_up-le n l few h = let f = found (λ k. nat_le n (2 ^ k)) 0 16 l (omega arith) (omega arith) (le-leb n (2 ^ l) h) in f.most
-
-pub log2_up-reaches : (n l : ℕ) → l ≤ 16 → n ≤ 2 ^ l → n ≤ 2 ^ log2_up n
-unfolding log2_up
-log2_up-reaches n l few h = let f = found (λ k. nat_le n (2 ^ k)) 0 16 l (omega arith) (omega arith) (le-leb n (2 ^ l) h) in leb-true n (2 ^ log2_up n) f.passes
-
-pub log2_up-pow : (l : ℕ) → l ≤ 16 → log2_up (2 ^ l) ≡ l
-log2_up-pow l few =
-    let most = log2_up-le (2 ^ l) l few (omega arith) in
-    let reaches = log2_up-reaches (2 ^ l) l few (omega arith) in
-    ⊎_elim (λ u. let less = pow-lt u in absurd (omega arith)) (λ u. omega arith) (cases_lt (log2_up (2 ^ l)) l)
 
 -- a degree is twice a power of two
 pub record Half (n : ℕ) : Type 0 where
@@ -65,7 +32,7 @@ half_of n d =
       few = omega (arith, d.most);
       some = omega (arith, d.least);
       is = two;
-      log = ap log2_up half ∙ log2_up-pow (d.exponent - 1) (omega (arith, d.most));
+      log = ap log2_up half ∙ log2_up-pow (d.exponent - 1);
     }
 
 -- a tested shape has at most log2 n levels
@@ -73,7 +40,7 @@ pub levels-le : (s : Numbers) (h : Half s.degree) → HasRoom s → levels s ≤
 unfolding levels
 levels-le s h r =
     let e : 2 ^ (h.exponent + 1) ≡ 2 * 2 ^ h.exponent = pow-add 2 h.exponent 1 ∙ omega arith in
-    omega (arith, log2_up-le s.rows (h.exponent + 1) (omega (arith, h.few)) (omega (arith, e, h.is, r.rows)), log2_up-le s.bins (h.exponent + 1) (omega (arith, h.few)) (omega (arith, e, h.is, r.bins)))
+    omega (arith, log2_up-le s.rows (h.exponent + 1) (omega (arith, e, h.is, r.rows)), log2_up-le s.bins (h.exponent + 1) (omega (arith, e, h.is, r.bins)))
 
 -- ---- elements
 

@@ -10,8 +10,8 @@ use lib.IntN.{neg_ℤ}
 use Rattle.rand_core.specs.Stream.{Stream}
 use Rattle.co_math.specs.Parameters.{q, digit_base, digit_count, error_bound}
 use Rattle.co_math.specs.Residues.{Congruent}
-use Rattle.co_math.specs.Coefficients.{coefficients, AreResidues, IsDegree}
-use Rattle.co_math.specs.Polynomials.{IsWrapped, product, plus, minus, scaled, substituted}
+use Rattle.co_math.specs.Coefficients.{coefficients, AreResidues, IsDegree, residues_of, signed_coefficients}
+use Rattle.co_math.specs.Polynomials.{IsWrapped, product, plus, minus, scaled, substituted, substitution}
 use Rattle.co_math.specs.Meanings.{centred, phase}
 use Rattle.co_math.proofs.Integers.{linear, expand, mul_assoc}
 use Rattle.co_math.proofs.Residues.{cong-refl, cong_from, cong-trans, cong-sym, cong-add, cong-neg, cong-mul}
@@ -19,17 +19,16 @@ use Rattle.co_math.proofs.Meanings.{centred-least}
 use Rattle.co_math.proofs.Polynomials.{product-IsWrapped}
 use Rattle.co_math.proofs.Places.{coefficients-IsWrapped}
 use Rattle.co_math.proofs.Agreements.{Agree, product_agree}
-use Rattle.co_bfv.specs.Lists.{residues_of, signed_coefficients}
 use Rattle.co_bfv.specs.Secrets.{IsSecret}
 use Rattle.co_bfv.specs.Draws.{uniform_draw, error_draw, coefficient_draw, noise_draw}
 use Rattle.co_bfv.proofs.Drawn.{length-drawn, errors_small}
-use Rattle.co_bfv.proofs.Listed.{degree_positive, residues_of-are, residues_of-is, residues_of-agree, length-residues_of, plus-IsWrapped, minus-IsWrapped, signed-IsWrapped, signed-small}
+use Rattle.co_math.proofs.Degrees.{degree_positive}
+use Rattle.co_math.proofs.Residue_lists.{residues_of-are, residues_of-is, residues_of-agree, length-residues_of, signed-IsWrapped, signed-small, residues_of-same, residues_of-at}
+use Rattle.co_math.proofs.Wrapped.{plus-IsWrapped, minus-IsWrapped}
 use Rattle.co_switch.specs.Keys.{Key, IsKey, IsGoodKey, part, key_degree}
-use Rattle.co_switch.specs.Substitutions.{substitution}
 use Rattle.co_switch.specs.Switches.{carried}
 use Rattle.co_switch.specs.Draws.{hidden, pairs_draw, key_draw}
-use Rattle.co_switch.proofs.Substituting.{Inverse, inverse_of, substitution-is, substitution-IsWrapped}
-use Rattle.co_switch.proofs.Adding.{residues_of-same, residues_of-at}
+use Rattle.co_math.proofs.Substituting.{Inverse, inverse_of, substitution-is, substitution-IsWrapped}
 use Rattle.co_switch.proofs.Drawing.{length-uniform, length-error, error-small}
 
 length-hidden : (secret : List ℤ) (g j : ℕ) (a : List ℕ) (e : List ℤ) → length (hidden secret g j a e) ≡ length secret

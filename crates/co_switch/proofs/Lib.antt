@@ -1,4 +1,3 @@
-pub mod Substituting
 pub mod Digitwise
 pub mod Cuts
 pub mod Meaning

@@ -6,9 +6,8 @@ use Rattle.std.proofs.lemmas.List.{map-append, get_or-map}
 use Rattle.std.proofs.lemmas.List.FromFn.{map-range_with_len_more, get_or-map-range_with_len}
 use Rattle.std.proofs.lemmas.List.Elements.{All-nil, All-push, All-get_or}
 use Rattle.rand_core.specs.Stream.{Stream}
-use Rattle.co_math.specs.Coefficients.{IsDegree}
-use Rattle.co_bfv.specs.Lists.{signed_coefficients}
-use Rattle.co_noise.specs.Shapes.{log2_up}
+use Rattle.co_math.specs.Coefficients.{IsDegree, signed_coefficients}
+use Rattle.co_math.specs.Logarithms.{log2_up}
 use Rattle.co_switch.specs.Keys.{Key, Keys, IsKey, IsGoodKey, AreKeysOf, AreKeys, AreGoodKeys, key_degree, keys_degree, rotation_element, expansion_element, rotation_key, expansion_key, no_key}
 use Rattle.co_switch.specs.Draws.{key_draw, keys_draw, key_set_draw}
 use Rattle.co_switch.proofs.Hiding.{degree-key_draw, element-key_draw, key_draw-IsKey, key_draw-good}

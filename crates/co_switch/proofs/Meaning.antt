@@ -7,7 +7,7 @@ use Rattle.co_math.specs.Parameters.{q, plain_modulus, digit_base, digit_count, 
 use Rattle.co_math.specs.Residues.{Congruent}
 use Rattle.co_math.specs.Sums.{total}
 use Rattle.co_math.specs.Coefficients.{coefficients, AreBelow}
-use Rattle.co_math.specs.Polynomials.{IsWrapped, product, plus, substituted}
+use Rattle.co_math.specs.Polynomials.{IsWrapped, product, plus, substituted, substitution}
 use Rattle.co_math.specs.Meanings.{centred, phase, noise, Means}
 use Rattle.co_math.proofs.Integers.{linear, expand}
 use Rattle.co_math.proofs.Residues.{cong-refl, cong_from, cong-trans, cong-sym, cong-add}
@@ -20,9 +20,8 @@ use Rattle.co_math.proofs.Meanings.{means_by, noise-is, cong-times, centred-is}
 use Rattle.co_math.proofs.Switches.{sums}
 use Rattle.co_math.proofs.Switched.{means_switched}
 use Rattle.co_bfv.proofs.Meant.{phases_agree}
-use Rattle.co_switch.specs.Substitutions.{substitution}
 use Rattle.co_switch.specs.Switches.{digit_polynomial}
-use Rattle.co_switch.proofs.Substituting.{Inverse, substitution-is, around, back_around, odd_half}
+use Rattle.co_math.proofs.Substituting.{Inverse, substitution-is, around, back_around, odd_half}
 use Rattle.co_switch.proofs.Digitwise.{digit-IsWrapped, digit-small, digits-sum}
 use Rattle.co_switch.proofs.Cuts.{below, below-in, below-out, cut, cut-in, cut-out, cut_all}
 

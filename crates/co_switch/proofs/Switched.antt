@@ -6,19 +6,19 @@ use lib.IntN.{neg_ℤ}
 use Rattle.co_math.specs.Parameters.{q, plain_modulus, digit_base, digit_count, error_bound}
 use Rattle.co_math.specs.Bounds.{switch_bound}
 use Rattle.co_math.specs.Sums.{total}
-use Rattle.co_math.specs.Coefficients.{coefficients, AreBelow, IsDegree}
-use Rattle.co_math.specs.Polynomials.{IsWrapped, product, plus}
+use Rattle.co_math.specs.Coefficients.{coefficients, AreBelow, IsDegree, residues_of}
+use Rattle.co_math.specs.Polynomials.{IsWrapped, product, plus, substitution}
 use Rattle.co_math.specs.Meanings.{centred, phase, Means}
 use Rattle.co_math.proofs.Totals.{total-same, total-neg}
 use Rattle.co_math.proofs.Places.{coefficients-IsWrapped}
 use Rattle.co_math.proofs.Polynomials.{product-IsWrapped}
-use Rattle.co_bfv.specs.Lists.{residues_of}
 use Rattle.co_bfv.specs.Ciphertexts.{Ciphertext, IsCiphertext, MeansWithin, ciphertext_degree}
-use Rattle.co_bfv.proofs.Listed.{degree_positive, length-residues_of, residues_of-agree, residues_of-below, plus-IsWrapped}
+use Rattle.co_math.proofs.Degrees.{degree_positive}
+use Rattle.co_math.proofs.Residue_lists.{length-residues_of, residues_of-agree, residues_of-below}
+use Rattle.co_math.proofs.Wrapped.{plus-IsWrapped}
 use Rattle.co_switch.specs.Keys.{Key, IsKey, IsGoodKey, part, key_degree}
-use Rattle.co_switch.specs.Substitutions.{substitution}
 use Rattle.co_switch.specs.Switches.{digit_polynomial, digit_sum, carried, switched}
-use Rattle.co_switch.proofs.Substituting.{inverse_of, substitution-IsWrapped}
+use Rattle.co_math.proofs.Substituting.{inverse_of, substitution-IsWrapped}
 use Rattle.co_switch.proofs.Meaning.{means_alike, means_carried}
 
 -- each polynomial of a key has its degree

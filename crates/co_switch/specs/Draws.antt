@@ -2,13 +2,11 @@
 use Rattle.std.specs.Prelude.{ℕ, ℤ, zero, suc, pos, ◌/◌, ◌^◌, List, [], ◌∷◌, ◌++◌, length}
 use Rattle.rand_core.specs.Stream.{Stream}
 use Rattle.co_math.specs.Parameters.{q, digit_base, digit_count}
-use Rattle.co_math.specs.Polynomials.{plus, minus, scaled, product}
-use Rattle.co_math.specs.Coefficients.{coefficients}
-use Rattle.co_noise.specs.Shapes.{log2_up}
-use Rattle.co_bfv.specs.Lists.{residues_of, signed_coefficients}
+use Rattle.co_math.specs.Polynomials.{plus, minus, scaled, product, substitution}
+use Rattle.co_math.specs.Coefficients.{coefficients, residues_of, signed_coefficients}
+use Rattle.co_math.specs.Logarithms.{log2_up}
 use Rattle.co_bfv.specs.Draws.{uniform_draw, error_draw}
 use Rattle.co_switch.specs.Keys.{Key, Keys, rotation_element, expansion_element}
-use Rattle.co_switch.specs.Substitutions.{substitution}
 
 -- W^j * s(X^g), hidden by the uniform polynomial a and the error e: e - a * s + W^j * s(X^g) modulo q
 unfoldable pub hidden : List ℤ → ℕ → ℕ → List ℕ → List ℤ → List ℕ

@@ -5,7 +5,7 @@ use Rattle.std.specs.List.{range_with_len}
 use Rattle.co_math.specs.Parameters.{q, digit_base, digit_count, error_bound}
 use Rattle.co_math.specs.Coefficients.{coefficients, IsDegree}
 use Rattle.co_math.specs.Meanings.{centred, phase}
-use Rattle.co_switch.specs.Substitutions.{substitution}
+use Rattle.co_math.specs.Polynomials.{substitution}
 
 -- for the Galois element g, a pair of polynomials modulo q for each digit
 pub record Key : Type 0 where

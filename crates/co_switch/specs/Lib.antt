@@ -1,5 +1,4 @@
 pub mod Steps
-pub mod Substitutions
 pub mod Keys
 pub mod Switches
 pub mod Draws

@@ -3,12 +3,10 @@
 use Rattle.std.specs.Prelude.{ℕ, ℤ, pos, ◌/◌, ◌%◌, ◌^◌, List, map, length}
 use Rattle.co_math.specs.Parameters.{q, digit_base, digit_count}
 use Rattle.co_math.specs.Sums.{total}
-use Rattle.co_math.specs.Polynomials.{plus, product}
-use Rattle.co_math.specs.Coefficients.{coefficients}
-use Rattle.co_bfv.specs.Lists.{residues_of}
+use Rattle.co_math.specs.Polynomials.{plus, product, substitution}
+use Rattle.co_math.specs.Coefficients.{coefficients, residues_of}
 use Rattle.co_bfv.specs.Ciphertexts.{Ciphertext, ciphertext_degree}
 use Rattle.co_switch.specs.Keys.{Key, part}
-use Rattle.co_switch.specs.Substitutions.{substitution}
 
 -- the polynomial of the digits at a place, in base W
 unfoldable pub digit_polynomial : ℕ → List ℕ → List ℕ

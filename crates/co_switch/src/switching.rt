@@ -2,14 +2,12 @@
 
 ghost use Rattle.std.specs.Prelude.{ℕ, ℤ, ◌≡◌, ◌+◌, ◌*◌, ◌%◌, ◌<◌, length, IfOk, OnOk, OnErr};
 ghost use Rattle.co_math.specs.Parameters.{q};
-ghost use Rattle.co_math.specs.Polynomials.{IsWrapped, plus, product};
-ghost use Rattle.co_math.specs.Coefficients.{coefficients};
+ghost use Rattle.co_math.specs.Polynomials.{IsWrapped, plus, product, substitution};
+ghost use Rattle.co_math.specs.Coefficients.{coefficients, residues_of};
 ghost use Rattle.co_math.specs.Bounds.{switch_bound};
-ghost use Rattle.co_bfv.specs.Lists.{residues_of};
 ghost use Rattle.co_bfv.specs.Ciphertexts.{MeansWithin, ciphertext_degree};
 ghost use Rattle.co_switch.specs.Keys.{IsGoodKey, key_degree};
 ghost use Rattle.co_switch.specs.Steps.{raised};
-ghost use Rattle.co_switch.specs.Substitutions.{substitution};
 ghost use Rattle.co_switch.specs.Switches.{carried, switched};
 
 use crate::keys::GaloisKey;

@@ -1,10 +1,9 @@
 use Rattle.std.proofs.Common.{ℕ, List, ◌∙◌, ap, sym, subst, length}
 use Rattle.co_math.specs.Parameters.{q, plain_modulus}
 use Rattle.co_math.specs.Polynomials.{plus, product}
-use Rattle.co_math.specs.Coefficients.{coefficients, AreResidues}
+use Rattle.co_math.specs.Coefficients.{coefficients, AreResidues, residues_of, signed_coefficients}
 use Rattle.co_ring.specs.declared.moduli.Modulus.TheVariants.{Plain}
 use Rattle.co_ring.specs.Polynomials.{Polynomial}
-use Rattle.co_bfv.specs.Lists.{residues_of, signed_coefficients}
 use Rattle.co_bfv.specs.Encryptions.{decrypted}
 use Rattle.co_bfv.proofs.Encrypted.{phase_is, decrypted_are}
 use Rattle.co_bfv.proofs.encryption.decrypt.Goals as goal

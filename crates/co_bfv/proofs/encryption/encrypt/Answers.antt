@@ -1,7 +1,6 @@
 use Rattle.std.proofs.Common.{◌∙◌, sym, subst}
 use Rattle.co_math.specs.Parameters.{fresh_bound}
-use Rattle.co_math.specs.Coefficients.{coefficients}
-use Rattle.co_bfv.specs.Lists.{signed_coefficients}
+use Rattle.co_math.specs.Coefficients.{coefficients, signed_coefficients}
 use Rattle.co_bfv.specs.Ciphertexts.{Ciphertext, MeansWithin}
 use Rattle.co_bfv.proofs.Encrypted.{rest_after, fresh_means, encryption_is}
 use Rattle.co_bfv.proofs.encryption.encrypt.Goals as goal

@@ -1,4 +1,4 @@
-use Rattle.co_bfv.specs.Lists.{signed_coefficients}
+use Rattle.co_math.specs.Coefficients.{signed_coefficients}
 use Rattle.co_bfv.proofs.Signed_lists.{whole_residues}
 use Rattle.co_bfv.proofs.signed.residues.Goals as goal
 

@@ -1,5 +1,5 @@
 use Rattle.std.proofs.Common.{ℕ, ◌≡◌, ◌∙◌, ◌+◌, ◌/◌, ◌%◌, ◌<◌, length, sym, ap, arith}
-use Rattle.co_noise.specs.Shapes.{log2_up}
+use Rattle.co_math.specs.Logarithms.{log2_up}
 use Rattle.co_switch.specs.Keys.{expansion_element}
 use Rattle.co_switch.proofs.Elements.{half_of, expansion_element-odd}
 use Rattle.co_switch.proofs.Listing.{no_keys, keys_more}

@@ -1,7 +1,7 @@
 use Rattle.std.proofs.Common.{ℕ, ℤ, ◌≡◌, ◌∙◌, ◌*◌, ◌<◌, List, length, sym, ap, subst, arith}
 use Rattle.rand_core.specs.Stream.{Stream}
 use Rattle.co_math.specs.Parameters.{q, digit_count}
-use Rattle.co_bfv.specs.Lists.{residues_of, signed_coefficients}
+use Rattle.co_math.specs.Coefficients.{residues_of, signed_coefficients}
 use Rattle.co_switch.specs.Keys.{Key, IsKey, IsGoodKey, key_degree}
 use Rattle.co_switch.specs.Switches.{carried}
 use Rattle.co_switch.specs.Draws.{key_draw}

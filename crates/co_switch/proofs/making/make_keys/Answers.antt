@@ -1,9 +1,9 @@
 use Rattle.std.proofs.Common.{ℕ, ◌≡◌, ◌∙◌, ◌+◌, ◌/◌, ◌≤◌, length, sym, ap, subst, arith}
 use Rattle.rand_core.specs.Stream.{Stream}
-use Rattle.co_math.specs.Coefficients.{IsDegree}
-use Rattle.co_noise.specs.Shapes.{Numbers, levels, log2_up}
+use Rattle.co_math.specs.Coefficients.{IsDegree, signed_coefficients}
+use Rattle.co_noise.specs.Shapes.{Numbers, levels}
+use Rattle.co_math.specs.Logarithms.{log2_up}
 use Rattle.co_noise.specs.Bounds.{HasRoom}
-use Rattle.co_bfv.specs.Lists.{signed_coefficients}
 use Rattle.co_switch.specs.Keys.{Keys, AreKeys, AreGoodKeys}
 use Rattle.co_switch.proofs.Elements.{half_of, levels-le}
 use Rattle.co_switch.proofs.Listing.{set_made, key_set_draw-AreKeys, key_set_draw-good}

@@ -1,8 +1,8 @@
 use Rattle.std.proofs.Common.{ℕ, ◌≡◌, ◌∙◌, List, length, sym, ap}
 use Rattle.co_math.specs.Parameters.{q}
-use Rattle.co_bfv.specs.Lists.{residues_of, signed_coefficients}
+use Rattle.co_math.specs.Coefficients.{residues_of, signed_coefficients}
 use Rattle.co_bfv.specs.Draws.{uniform_draw, error_draw}
-use Rattle.co_bfv.proofs.Listed.{length-residues_of}
+use Rattle.co_math.proofs.Residue_lists.{length-residues_of}
 use Rattle.co_switch.proofs.Adding.{pair_is}
 use Rattle.co_switch.proofs.Drawing.{length-uniform}
 use Rattle.co_switch.proofs.making.make_pair.Goals as goal

@@ -1,6 +1,6 @@
 use Rattle.std.proofs.Common.{ℕ, ℤ, ◌≡◌, ◌∙◌, ◌*◌, ◌+◌, ◌/◌, ◌%◌, ◌<◌, List, length, sym, ap, subst, arith}
 use Rattle.rand_core.specs.Stream.{Stream}
-use Rattle.co_noise.specs.Shapes.{log2_up}
+use Rattle.co_math.specs.Logarithms.{log2_up}
 use Rattle.co_switch.specs.Keys.{Key, rotation_element}
 use Rattle.co_switch.specs.Draws.{keys_draw}
 use Rattle.co_switch.proofs.Elements.{rotation_element-odd, rotation_element-lt, rotation_element-first, rotation_element-next}

@@ -3,7 +3,7 @@ use Rattle.co_math.specs.Parameters.{digit_count}
 use Rattle.co_bfv.specs.Ciphertexts.{Ciphertext, MeansWithin, ciphertext_degree}
 use Rattle.co_math.specs.Bounds.{switch_bound}
 use Rattle.co_switch.specs.Keys.{key_degree}
-use Rattle.co_switch.specs.Substitutions.{substitution}
+use Rattle.co_math.specs.Polynomials.{substitution}
 use Rattle.co_switch.specs.Switches.{carried, switched}
 use Rattle.co_switch.proofs.Adding.{length-sum, second-degree, sums_begin, sums_more, sums_all}
 use Rattle.co_switch.proofs.Switched.{part-degree, switched_means, degree-switched}

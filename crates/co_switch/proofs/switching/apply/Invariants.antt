@@ -1,7 +1,7 @@
 use Rattle.std.proofs.Common.{ℕ, ◌≡◌, length, pos}
 use Rattle.co_math.specs.Coefficients.{coefficients}
 use Rattle.co_bfv.specs.Ciphertexts.{ciphertext_degree}
-use Rattle.co_switch.specs.Substitutions.{substitution}
+use Rattle.co_math.specs.Polynomials.{substitution}
 use Rattle.co_switch.specs.Switches.{carried}
 use Rattle.co_switch.proofs.Adding.{AreSums}
 use Rattle.co_switch.proofs.switching.apply.Given as goal

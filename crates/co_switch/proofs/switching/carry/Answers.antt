@@ -1,4 +1,4 @@
-use Rattle.co_switch.proofs.Adding.{substituted_is}
+use Rattle.co_math.proofs.Substituting.{substituted_is}
 use Rattle.co_switch.proofs.switching.carry.Goals as goal
 
 pub returns : goal.returns

@@ -1,6 +1,6 @@
 use Rattle.std.proofs.Common.{ℕ, ◌<◌, sym, subst, ◌∙◌, length, arith}
 use Rattle.co_math.specs.Parameters.{first_modulus, second_modulus}
-use Rattle.co_math.proofs.Places.{degree_positive}
+use Rattle.co_math.proofs.Degrees.{degree_positive}
 use Rattle.co_rns.proofs.Centring.{centred_agree}
 use Rattle.co_rns.proofs.Wholes.{split_of, product_result}
 use Rattle.co_rns.proofs.pairs.Pair.mul_plain.Goals as goal

@@ -1,22 +1,17 @@
--- Lists of residues, and the polynomials of lists.
-use Rattle.std.proofs.Common.{◌≡◌, ℕ, ◌<◌, ◌≤◌, sym, subst, ◌∙◌, arith, ℤ, pos, ◌+ℤ◌, ◌-ℤ◌, List, length, get_or}
+-- The list of the residues of a polynomial, and polynomials of lists of either sign.
+use Rattle.std.proofs.Common.{◌≡◌, ℕ, ◌<◌, ◌≤◌, sym, subst, arith, ℤ, pos, List, length, get_or}
 use Rattle.std.specs.Int.RustNames.{unsigned_abs}
 use Rattle.std.proofs.lemmas.List.FromFn.{length-map-range_with_len, get_or-map-range_with_len, fill_by_all}
-use Rattle.std.proofs.lemmas.Nat.{pow_pos}
-use lib.IntN.{neg_ℤ}
-use Rattle.co_math.specs.Residues.{residue}
-use Rattle.co_math.specs.Polynomials.{IsWrapped, plus, minus}
-use Rattle.co_math.specs.Coefficients.{coefficients, AreBelow, AreResidues, IsDegree}
-use Rattle.co_math.proofs.Integers.{linear}
+use Rattle.co_math.specs.Residues.{residue, Congruent}
+use Rattle.co_math.specs.Polynomials.{IsWrapped}
+use Rattle.co_math.specs.Coefficients.{coefficients, signed_coefficients, AreBelow, AreResidues, residues_of}
+use Rattle.co_math.proofs.Residues.{cong-trans, cong_from}
+use Rattle.co_math.proofs.Reduced.{residue_of}
+use Rattle.co_math.proofs.Terms.{coefficient-low}
 use Rattle.co_math.proofs.Spreads.{spread-low, spread-IsWrapped}
 use Rattle.co_math.proofs.Switched.{wrapped_bound}
-use Rattle.co_math.proofs.Agreements.{Agree, residues_agree}
+use Rattle.co_math.proofs.Agreements.{Agree, residues_agree, residues_for}
 use Rattle.co_math.proofs.Done.{residues_below}
-use Rattle.co_bfv.specs.Lists.{residues_of, signed_coefficients}
-use Rattle.co_bfv.specs.Secrets.{IsSecret, IsTernary}
-
-pub degree_positive : (n : ℕ) → IsDegree n → 0 < n
-degree_positive n d = let e = pow_pos d.exponent in omega (arith, d.is, e)
 
 pub residues_of-are : (m n : ℕ) (f : ℤ → ℤ) → AreResidues m n f (residues_of m n f)
 unfolding residues_of
@@ -40,19 +35,17 @@ residues_of-agree m n f p z w = residues_agree m n f (residues_of m n f) p z w (
 pub residues_of-below : (m n : ℕ) (f : ℤ → ℤ) → 0 < m → AreBelow m (residues_of m n f)
 residues_of-below m n f p = residues_below m n f (residues_of m n f) p (residues_of-are m n f)
 
-pub plus-IsWrapped : (n : ℕ) (a b : ℤ → ℤ) → IsWrapped n a → IsWrapped n b → IsWrapped n (plus a b)
-unfolding plus
-plus-IsWrapped n a b v w k = (λ i. v k i +ℤ w k i) ∙ opposites (a k) (b k)
-  where
-    opposites : (x y : ℤ) → neg_ℤ x +ℤ neg_ℤ y ≡ neg_ℤ (x +ℤ y)
-    opposites x y = omega (arith, linear)
+-- polynomials that agree modulo m have the same residues
+pub residues_of-same : (m n : ℕ) (f g : ℤ → ℤ) → 0 < m → ((k : ℕ) → k < n → Congruent m (f (pos k)) (g (pos k))) → residues_of m n f ≡ residues_of m n g
+residues_of-same m n f g p h = residues_of-is m n g (residues_of m n f) (residues_for m n f g (residues_of m n f) p h (residues_of-are m n f))
 
-pub minus-IsWrapped : (n : ℕ) (a b : ℤ → ℤ) → IsWrapped n a → IsWrapped n b → IsWrapped n (minus a b)
-unfolding minus
-minus-IsWrapped n a b v w k = (λ i. v k i -ℤ w k i) ∙ opposites (a k) (b k)
-  where
-    opposites : (x y : ℤ) → neg_ℤ x -ℤ neg_ℤ y ≡ neg_ℤ (x -ℤ y)
-    opposites x y = omega (arith, linear)
+-- a list of residues is congruent to its polynomial
+pub residues_of-at : (m n : ℕ) (f : ℤ → ℤ) (xs : List ℕ) (k : ℕ) → 0 < m → xs ≡ residues_of m n f → k < n → Congruent m (coefficients xs (pos k)) (f (pos k))
+residues_of-at m n f xs k p e l =
+    let h = subst (AreResidues m n f) (sym e) (residues_of-are m n f) in
+    cong-trans m (cong_from m (coefficient-low xs k (omega (arith, h.len)))) (residue_of m (get_or xs k 0) (f (pos k)) p (h.each k l))
+
+-- ---- lists of either sign
 
 pub signed-low : (xs : List ℤ) (k : ℕ) → k < length xs → signed_coefficients xs (pos k) ≡ get_or xs k (pos 0)
 unfolding signed_coefficients
@@ -64,9 +57,3 @@ signed-IsWrapped xs z = spread-IsWrapped (length xs) (λ i. get_or xs i (pos 0))
 
 pub signed-small : (xs : List ℤ) (b : ℕ) → 0 < length xs → ((i : ℕ) → i < length xs → unsigned_abs (get_or xs i (pos 0)) ≤ b) → (k : ℤ) → unsigned_abs (signed_coefficients xs k) ≤ b
 signed-small xs b z h = wrapped_bound (length xs) (signed_coefficients xs) b z (signed-IsWrapped xs z) (λ i l. subst (λ (y : ℤ). unsigned_abs y ≤ b) (sym (signed-low xs i l)) (h i l))
-
--- a secret's polynomial has coefficients -1, 0 and 1
-pub secret-IsTernary : (xs : List ℤ) → IsSecret xs → IsTernary (length xs) (signed_coefficients xs)
-secret-IsTernary xs h =
-    let z = degree_positive (length xs) h.degree in
-    record { wrapped = signed-IsWrapped xs z; small = signed-small xs 1 z h.small }
