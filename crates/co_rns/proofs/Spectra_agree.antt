@@ -9,7 +9,7 @@ use Rattle.co_math.specs.Parameters.{first_modulus, second_modulus}
 use Rattle.co_math.proofs.Residues.{residue-same}
 use Rattle.co_math.proofs.Values.{value-congruent}
 use Rattle.co_math.proofs.Agreements.{Agree}
-use Rattle.co_math.proofs.Places.{degree_positive}
+use Rattle.co_math.proofs.Degrees.{degree_positive}
 use Rattle.co_ring.specs.declared.moduli.Modulus.{Modulus}
 use Rattle.co_ring.specs.declared.moduli.Modulus.TheVariants.{First, Second}
 use Rattle.co_ring.specs.Moduli.{value_of}
