@@ -1,6 +1,3 @@
-pub mod Keywords
-pub mod Publishing
-pub mod Putting
+pub mod Ending
 pub mod Rest
 pub mod Telling
-pub mod Unhindered

@@ -1,6 +1,9 @@
 pub mod Words
 pub mod Commands
 pub mod Next
+pub mod Outside
 pub mod Refusals
-pub mod Answers
-pub mod Shows
+pub mod Searches
+pub mod Imports
+pub mod ShapeLines
+pub mod Runs

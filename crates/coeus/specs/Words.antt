@@ -1,5 +1,5 @@
 -- The words of the command line.
-use Rattle.std.specs.Prelude.{ℕ, Bool, false, not, ◌&&◌, ◌==◌, ◌^◌, nat_lt, if◌then◌else◌, List, [], ◌∷◌, ◌++◌, length, codes, Option, Some, None, option_map, option_and_then, is_some, is_none}
+use Rattle.std.specs.Prelude.{ℕ, Bool, false, not, ◌&&◌, ◌||◌, ◌==◌, ◌^◌, nat_lt, if◌then◌else◌, List, [], ◌∷◌, ◌++◌, length, codes, Option, Some, None, option_map, option_and_then, is_some, is_none}
 use Rattle.std.specs.List.{list_all}
 use Rattle.std.specs.Option.{unwrap_or}
 use Rattle.std.specs.Str.{bytes_eq}
@@ -8,14 +8,24 @@ use Rattle.std.specs.Str.Parse.{digits_value}
 use Rattle.co_noise.specs.Shapes.{Numbers, numbers, shape_of, is_within}
 use Rattle.co_library.specs.declared.settings.Settings.{Settings}
 use Rattle.coeus.specs.declared.options.Options.{Options}
+use Rattle.coeus.specs.declared.limits.TheConstants.{DEFAULT_DEGREE, DEFAULT_TERMS, DEFAULT_HITS, DEFAULT_SALT, DEFAULT_CHUNKS, DEFAULT_PICK, MAX_PICK, SHORT_DIGITS}
 
--- one to ten decimal digits
-abbrev pub are_digits : List ℕ → Bool
-are_digits w = is_within 1 10 (length w) && list_all is_ascii_digit w
+-- one to so many decimal digits
+abbrev pub are_digits : ℕ → List ℕ → Bool
+are_digits most w = is_within 1 most (length w) && list_all is_ascii_digit w
 
--- the number of 32 bits that such digits write; leading zeros are allowed
-unfoldable pub number : List ℕ → Option ℕ
-number w = if are_digits w && nat_lt (digits_value 10 w) (2 ^ 32) then Some (digits_value 10 w) else None
+-- the number that at most so many digits write; leading zeros are allowed
+abbrev pub digits_number : ℕ → List ℕ → Option ℕ
+digits_number most w = if are_digits most w then Some (digits_value 10 w) else None
+
+-- where it is below a bound
+abbrev pub below : ℕ → Option ℕ → Option ℕ
+below bound None = None
+below bound (Some n) = if nat_lt n bound then Some n else None
+
+-- a number of 32 bits, of at most ten digits
+unfoldable pub short_number : List ℕ → Option ℕ
+short_number w = below (2 ^ 32) (digits_number SHORT_DIGITS w)
 
 -- a positional word doesn't begin with a dash
 abbrev pub begins_with_dash : List ℕ → Bool
@@ -29,7 +39,7 @@ no_options = record { degree = None; terms = None; hits = None; salt = None; chu
 
 -- the number of an option that is given once
 abbrev pub once : Option ℕ → List ℕ → Option ℕ
-once before value = if is_some before then None else number value
+once before value = if is_some before then None else short_number value
 
 -- the options with one more, by its name and value
 unfoldable pub with_option : Options → List ℕ → List ℕ → Option Options
@@ -68,71 +78,81 @@ pub record ImportWords : Type 0 where
   pub library : List ℕ
   pub settings : Settings
 
--- a command with its words; a shape is the published numbers that its four words stand for
+-- what words ask for: a command, where a shape is the published numbers that its four words stand for, or nothing that
+-- is in the grammar
 pub data Spoken : Type 0 where
   SpokenPlain : PlainWords → Spoken
   SpokenImport : ImportWords → Spoken
   SpokenShape : Numbers → Spoken
+  SpokenWrong : Spoken
+
+-- what is spoken, if it is in the grammar
+abbrev pub or_wrong : {A : Type 0} → (A → Spoken) → Option A → Spoken
+or_wrong speak None = SpokenWrong
+or_wrong speak (Some words) = speak words
 
 -- the pick, 1 to 64, or else 1, where no option was given that is for publishing alone
 abbrev pub pick_of : Options → Option ℕ
-pick_of o = if is_none o.degree && is_none o.salt && is_none o.chunks && is_within 1 64 (unwrap_or o.pick 1) then Some (unwrap_or o.pick 1) else None
+pick_of o =
+    if is_none o.degree && is_none o.salt && is_none o.chunks && is_within 1 MAX_PICK (unwrap_or o.pick DEFAULT_PICK)
+    then Some (unwrap_or o.pick DEFAULT_PICK) else None
 
--- `plain` has a query, and the options `--terms`, `--hits` and `--pick`, which are else 16384, 16 and 1
+-- `plain` has a query, and the options `--terms`, `--hits` and `--pick`
 abbrev pub plain_of : List ℕ → Rest → Option PlainWords
-plain_of corpus rest = option_and_then (λ query. option_map (λ pick.
-    record { corpus = corpus; terms = unwrap_or rest.options.terms 16384; hits = unwrap_or rest.options.hits 16; pick = pick; query = query })
-    (pick_of rest.options)) rest.query
+plain_of corpus rest = option_and_then (λ query. option_map (λ pick. record {
+      corpus = corpus;
+      terms = unwrap_or rest.options.terms DEFAULT_TERMS;
+      hits = unwrap_or rest.options.hits DEFAULT_HITS;
+      pick = pick;
+      query = query;
+    }) (pick_of rest.options)) rest.query
 
--- `plain CORPUS`, options, `--` and a query
+-- behind `plain`: CORPUS, options, `--` and a query
 abbrev pub plain_words : List (List ℕ) → Option PlainWords
 plain_words [] = None
-plain_words (command ∷ []) = None
-plain_words (command ∷ corpus ∷ rest) =
-    if bytes_eq command (codes "plain") && not (begins_with_dash corpus) then option_and_then (plain_of corpus) (rest_of no_options rest) else None
+plain_words (corpus ∷ rest) =
+    if begins_with_dash corpus then None else option_and_then (plain_of corpus) (rest_of no_options rest)
 
 -- the settings, where no pick and no query was given
 abbrev pub settings_of : Rest → Option Settings
 settings_of rest =
     if is_none rest.options.pick && is_none rest.query
     then Some (record {
-      degree = unwrap_or rest.options.degree 4096;
-      terms = unwrap_or rest.options.terms 16384;
-      hits = unwrap_or rest.options.hits 16;
-      salt = unwrap_or rest.options.salt 0;
-      chunks = unwrap_or rest.options.chunks 1;
+      degree = unwrap_or rest.options.degree DEFAULT_DEGREE;
+      terms = unwrap_or rest.options.terms DEFAULT_TERMS;
+      hits = unwrap_or rest.options.hits DEFAULT_HITS;
+      salt = unwrap_or rest.options.salt DEFAULT_SALT;
+      chunks = unwrap_or rest.options.chunks DEFAULT_CHUNKS;
     })
     else None
 
 abbrev pub import_of : List ℕ → List ℕ → Rest → Option ImportWords
-import_of corpus library rest = option_map (λ settings. record { corpus = corpus; library = library; settings = settings }) (settings_of rest)
+import_of corpus library rest =
+    option_map (λ settings. record { corpus = corpus; library = library; settings = settings }) (settings_of rest)
 
--- `import CORPUS LIBRARY` and options
+-- behind `import`: CORPUS, LIBRARY and options
 abbrev pub import_words : List (List ℕ) → Option ImportWords
-import_words [] = None
-import_words (command ∷ []) = None
-import_words (command ∷ corpus ∷ []) = None
-import_words (command ∷ corpus ∷ library ∷ rest) =
-    if bytes_eq command (codes "import") && not (begins_with_dash corpus) && not (begins_with_dash library)
-    then option_and_then (import_of corpus library) (rest_of no_options rest) else None
+import_words (corpus ∷ library ∷ rest) =
+    if begins_with_dash corpus || begins_with_dash library then None
+    else option_and_then (import_of corpus library) (rest_of no_options rest)
+import_words words = None
 
--- `shape DEGREE TERMS ROWS BINS`, where each is in its range; the other numbers are the least
+-- behind `shape`: DEGREE, TERMS, ROWS and BINS, each in its range; the other numbers are the least
 abbrev pub shape_words : List (List ℕ) → Option Numbers
-shape_words (command ∷ degree ∷ terms ∷ rows ∷ bins ∷ []) =
-    if bytes_eq command (codes "shape")
-    then option_and_then (λ d. option_and_then (λ t. option_and_then (λ r. option_and_then (λ b. shape_of (numbers d 1 t 1 0 r b 1)) (number bins)) (number rows)) (number terms)) (number degree)
-    else None
+shape_words (degree ∷ terms ∷ rows ∷ bins ∷ []) =
+    option_and_then (λ d. option_and_then (λ t. option_and_then (λ r. option_and_then (λ b.
+    shape_of (numbers d 1 t 1 0 r b 1))
+    (short_number bins)) (short_number rows)) (short_number terms)) (short_number degree)
 shape_words words = None
 
-abbrev pub first_spoken : Option PlainWords → Option ImportWords → Option Numbers → Option Spoken
-first_spoken (Some p) publishing shape = Some (SpokenPlain p)
-first_spoken None (Some i) shape = Some (SpokenImport i)
-first_spoken None None (Some s) = Some (SpokenShape s)
-first_spoken None None None = None
-
--- the command that the words speak, if they are in the grammar
-unfoldable pub spoken : List (List ℕ) → Option Spoken
-spoken words = first_spoken (plain_words words) (import_words words) (shape_words words)
+-- what the words ask for
+unfoldable pub spoken : List (List ℕ) → Spoken
+spoken [] = SpokenWrong
+spoken (command ∷ words) =
+    if bytes_eq command (codes "plain") then or_wrong SpokenPlain (plain_words words)
+    else if bytes_eq command (codes "import") then or_wrong SpokenImport (import_words words)
+    else if bytes_eq command (codes "shape") then or_wrong SpokenShape (shape_words words)
+    else SpokenWrong
 
 -- ---- the query
 

@@ -7,14 +7,13 @@
 //! what a shape's bounds are (co_noise).
 #![tactic(auto)]
 
+mod limits;
 mod options;
 mod plain;
 mod program;
 mod publish;
 mod refusals;
 mod shape;
-#[cfg(test)]
-mod tests;
 mod words;
 
 use crate::refusals::{Refusal, tell};
@@ -52,7 +51,7 @@ fn main(rt: HostRuntime) -> ExitCode {
             let mut out = StdSink::new(rt.stdout());
             run(&rt, alloc, &words, &mut files, &mut out, &mut err)
         }
-        Err(refusal) => tell(alloc, &[], refusal, &mut err),
+        Err(refusal) => tell(&[], refusal, &mut err),
     };
     ExitCode::from(status)
 }

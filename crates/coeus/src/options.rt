@@ -3,9 +3,11 @@ ghost use Rattle.std.specs.Prelude.{◌≡◌, ◌≤◌, ◌<◌, ◌^◌, stri
 ghost use Rattle.std.specs.Char.{is_ascii_digit};
 ghost use Rattle.std.specs.List.{list_all};
 ghost use Rattle.std.specs.Str.Parse.{digits_value};
-ghost use Rattle.coeus.specs.Words.{are_digits, number, once, with_option, no_options, rest_of, pick_of};
+ghost use Rattle.coeus.specs.Words.{are_digits, digits_number, short_number, once, with_option, no_options, rest_of, pick_of};
 ghost use Rattle.coeus.specs.Commands.{rest_shown};
 ghost use Rattle.coeus.specs.Next.{next_shown, words_left};
+
+use crate::limits::{DEFAULT_PICK, MAX_PICK, SHORT_DIGITS};
 
 /// The options that were given, each with its number.
 #[derive(Clone, Copy)]
@@ -32,38 +34,46 @@ fn all_digits(word: &[u8]) -> bool
     word.iter().all(|digit| digit.is_ascii_digit())
 }
 
-// Whether there are 1 to 10 bytes, and each is a digit.
-fn are_digits(word: &[u8]) -> bool
-    ensures { result ≡ are_digits word.now }
+// Whether there are 1 to `most` bytes, and each is a digit.
+fn are_digits(word: &[u8], most: usize) -> bool
+    ensures { result ≡ are_digits most word.now }
 {
-    if word.is_empty() || word.len() > 10 {
+    if word.is_empty() || word.len() > most {
         return false;
     }
     all_digits(word)
 }
 
-// The number that at most ten digits write.
-fn value_of(digits: &[u8]) -> u64
-    requires { are_digits digits.now ≡ true }
+// The number that at most twenty digits write.
+fn value_of(digits: &[u8]) -> u128
+    requires { are_digits 20 digits.now ≡ true }
     ensures { result ≡ digits_value 10 digits.now }
 {
-    let mut value = 0u64;
+    let mut value = 0u128;
     for digit in digits {
-        value = value * 10 + (*digit - b'0') as u64;
+        value = value * 10 + (*digit - b'0') as u128;
     }
     value
 }
 
-/// The number that a word writes, with 1 to 10 digits; leading zeros are allowed.
-#[tactic(auto, unfolding(crate::specs::Words::number))]
-pub fn read_number(word: &str) -> Option<u32>
-    ensures { result ≡ number word.now }
+/// The number that a word of 1 to `most` digits writes; leading zeros are allowed.
+pub fn read_digits(word: &str, most: usize) -> Option<u128>
+    requires { most ≤ 20 }
+    ensures { result ≡ digits_number most word.now }
 {
     let digits = word.as_bytes();
-    if !are_digits(digits) {
+    if !are_digits(digits, most) {
         return None;
     }
-    u32::try_from(value_of(digits)).ok()
+    Some(value_of(digits))
+}
+
+/// The number of 32 bits that a word of 1 to 10 digits writes.
+#[tactic(auto, unfolding(crate::specs::Words::short_number))]
+pub fn read_short(word: &str) -> Option<u32>
+    ensures { result ≡ short_number word.now }
+{
+    u32::try_from(read_digits(word, SHORT_DIGITS)?).ok()
 }
 
 // The number of an option that is given once.
@@ -73,7 +83,7 @@ fn once(before: Option<u32>, value: &str) -> Option<u32>
     if before.is_some() {
         return None;
     }
-    read_number(value)
+    read_short(value)
 }
 
 impl Options {
@@ -126,17 +136,11 @@ impl Options {
     pub fn pick(self) -> Option<u32>
         ensures { result ≡ pick_of self }
     {
-        if self.degree.is_some() {
+        if self.degree.is_some() || self.salt.is_some() || self.chunks.is_some() {
             return None;
         }
-        if self.salt.is_some() {
-            return None;
-        }
-        if self.chunks.is_some() {
-            return None;
-        }
-        let pick = self.pick.unwrap_or(1);
-        if pick < 1 || pick > 64 {
+        let pick = self.pick.unwrap_or(DEFAULT_PICK);
+        if pick < 1 || pick > MAX_PICK {
             return None;
         }
         Some(pick)

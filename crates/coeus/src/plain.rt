@@ -1,61 +1,61 @@
 // The command `plain`: plain search over the documents of a corpus file.
-ghost use Rattle.std.specs.Prelude.{◌≡◌, ◌≢◌, ◌≤◌, length, IfOk, IfErr, OnOk, IsErrOf, List, ℕ};
+ghost use Rattle.std.specs.Prelude.{◌≡◌, ◌≤◌, length, IfOk, IfErr, OnOk, ℕ};
 ghost use Rattle.co_text.specs.Terms.{distinct};
-ghost use Rattle.co_tfidf.specs.Found.{found, IsIndex};
-ghost use Rattle.coeus.specs.Refusals.{TookWhole, TookPrefix};
+ghost use Rattle.co_text.specs.Printed.{printed};
+ghost use Rattle.co_text.specs.declared.terms.TheConstants.{MAX_KEYWORDS};
+ghost use Rattle.co_tfidf.specs.Found.{found};
+ghost use Rattle.coeus.specs.Words.{SpokenPlain};
 ghost use Rattle.coeus.specs.Commands.{plain_shown};
-ghost use Rattle.coeus.specs.Answers.{PlainAnswer, PlainCause, HasCorpus, ReadCause, plain_settings};
+ghost use Rattle.coeus.specs.Outside.{Outside, FilesState};
+ghost use Rattle.coeus.specs.Searches.{HasCorpus, ReadCause, HasText, TextCause, plain_settings};
+ghost use Rattle.coeus.specs.Runs.{Ended};
 
+use crate::limits::{DEFAULT_CHUNKS, DEFAULT_DEGREE, DEFAULT_SALT, MAX_CORPUS};
 use crate::refusals::Refusal;
 use crate::words::{PlainCommand, join};
 use co_corpus::{Corpus, CorpusFault, read_corpus};
 use co_library::{PublishFault, Settings};
-use co_link::{FileFault, FileKind, Files, Sink};
-use co_text::{Found, QueryFault, Terms, query_terms, render};
-use co_tfidf::{Index, build_index, plain_search};
+use co_link::{Bytes, FileFault, FileKind, Files, Sink};
+use co_text::{QueryFault, Terms, query_terms, render};
+use co_tfidf::{build_index, plain_search};
 use std::alloc::{AllocError, Global};
-
-/// The most bytes of a corpus file.
-pub const MAX_CORPUS: u64 = 268_435_456;
 
 // The settings that the command's own are checked among.
 fn settings_of(command: &PlainCommand<'_>) -> Settings
     ensures { result ≡ plain_settings (plain_shown command.now) }
 {
     Settings {
-        degree: 4_096,
+        degree: DEFAULT_DEGREE,
         terms: command.terms,
         hits: command.hits,
-        salt: 0,
-        chunks: 1,
+        salt: DEFAULT_SALT,
+        chunks: DEFAULT_CHUNKS,
     }
 }
 
-// Searches by the index of a vocabulary of at most so many terms.
+// Searches a corpus for the terms of a query, by the index of the command's vocabulary.
 fn search(
     alloc: Global,
     corpus: &Corpus,
-    index: &Index,
-    terms: u32,
     query: &Terms,
     command: &PlainCommand<'_>,
-) -> Result<Found, AllocError>
-    ghost most: { ℕ }
-    requires same { most ≡ terms }
-    requires index { IsIndex most corpus.now index.now }
-    requires few { length (distinct query.now) ≤ 16 }
-    ensures { IfOk result (λ f. f ≡ found terms corpus.now command.now.hits query.now command.now.pick) }
+) -> Result<Bytes, AllocError>
+    requires few { length (distinct query.now) ≤ MAX_KEYWORDS }
+    ensures { IfOk result (λ text. text ≡ printed (found command.now.terms corpus.now command.now.hits query.now command.now.pick)) }
 {
-    plain_search(alloc, corpus, index, query, command.hits, command.pick)
+    let index = build_index(alloc, corpus, command.terms)?;
+    let found = plain_search(alloc, corpus, &index, query, command.hits, command.pick)?;
+    render(alloc, &found)
 }
 
 /// The corpus of a file.
 pub fn read_documents<F: Files>(alloc: Global, name: &str, files: &mut F) -> Result<Corpus, Refusal>
     ensures ok { IfOk result (HasCorpus (F.held files.old) name.now) }
-    ensures cause { IfErr result (ReadCause name.now (F.held files.old) (F.faults files.old) (F.faults files.new) (F.last_failed files.new)) }
+    ensures cause {
+        let was : FilesState = record { held = F.held files.old; faults = F.faults files.old; last_failed = F.last_failed files.old } in
+        let is : FilesState = record { held = F.held files.new; faults = F.faults files.new; last_failed = F.last_failed files.new } in
+        IfErr result (ReadCause name.now was is) }
     ensures files { F.held files.new ≡ F.held files.old }
-    ensures later { F.faults files.old ≤ F.faults files.new }
-    ensures last { OnOk result (F.last_failed files.new ≡ F.last_failed files.old) }
 {
     let bytes = match files.read(name, MAX_CORPUS) {
         Ok(bytes) => bytes,
@@ -70,23 +70,15 @@ pub fn read_documents<F: Files>(alloc: Global, name: &str, files: &mut F) -> Res
     }
 }
 
-/// Searches a corpus, and puts the answer on the output.
-pub fn plain<F: Files, O: Sink>(
+// The text of what is found in a corpus.
+fn answer(
     alloc: Global,
+    corpus: &Corpus,
     command: &PlainCommand<'_>,
-    files: &mut F,
-    out: &mut O,
-) -> Result<(), Refusal>
-    ensures ok { OnOk result ((text : List ℕ) × PlainAnswer (plain_shown command.now) (F.held files.old) text × TookWhole (O.put_so_far out.old) (O.put_so_far out.new) text) }
-    ensures output { IsErrOf result Refusal.Output → (text : List ℕ) × PlainAnswer (plain_shown command.now) (F.held files.old) text × TookPrefix (O.put_so_far out.old) (O.put_so_far out.new) text }
-    ensures nothing { IfErr result (λ e. e ≢ Refusal.Output → O.put_so_far out.new ≡ O.put_so_far out.old) }
-    ensures cause { IfErr result (PlainCause (plain_shown command.now) (record { held = F.held files.old; files_before = F.faults files.old; files_now = F.faults files.new; last_failed = F.last_failed files.new; out_before = O.faults out.old; out_now = O.faults out.new })) }
-    ensures files { F.held files.new ≡ F.held files.old }
+) -> Result<Bytes, Refusal>
+    ensures ok { IfOk result (HasText (plain_shown command.now) corpus.now) }
+    ensures cause { IfErr result (TextCause (plain_shown command.now)) }
 {
-    let corpus = match read_documents(alloc, command.corpus, files) {
-        Ok(corpus) => corpus,
-        Err(refusal) => return Err(refusal),
-    };
     if let Err(setting) = settings_of(command).check() {
         return Err(Refusal::Publish(PublishFault::Setting {
             which: setting.which,
@@ -100,15 +92,32 @@ pub fn plain<F: Files, O: Sink>(
         Err(QueryFault::TooManyKeywords { found }) => return Err(Refusal::Keywords(found)),
         Err(QueryFault::OutOfMemory) => return Err(Refusal::Memory),
     };
-    let Ok(index) = build_index(alloc, &corpus, command.terms) else {
-        return Err(Refusal::Memory);
-    };
-    let Ok(found) = search(alloc, &corpus, &index, command.terms, &query, command) else {
-        return Err(Refusal::Memory);
-    };
-    let Ok(text) = render(alloc, &found) else {
-        return Err(Refusal::Memory);
-    };
+    match search(alloc, corpus, &query, command) {
+        Ok(text) => Ok(text),
+        Err(_) => Err(Refusal::Memory),
+    }
+}
+
+/// Searches a corpus, and puts the answer on the output.
+pub fn plain<F: Files, O: Sink>(
+    alloc: Global,
+    command: &PlainCommand<'_>,
+    files: &mut F,
+    out: &mut O,
+) -> Result<(), Refusal>
+    ensures {
+        let was : Outside = record {
+            files = record { held = F.held files.old; faults = F.faults files.old; last_failed = F.last_failed files.old };
+            out = record { bytes = O.put_so_far out.old; faults = O.faults out.old };
+        } in
+        let is : Outside = record {
+            files = record { held = F.held files.new; faults = F.faults files.new; last_failed = F.last_failed files.new };
+            out = record { bytes = O.put_so_far out.new; faults = O.faults out.new };
+        } in
+        Ended (SpokenPlain (plain_shown command.now)) was is result }
+{
+    let corpus = read_documents(alloc, command.corpus, files)?;
+    let text = answer(alloc, &corpus, command)?;
     match out.put(text.as_slice()) {
         Ok(()) => Ok(()),
         Err(_) => Err(Refusal::Output),

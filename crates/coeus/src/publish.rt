@@ -1,9 +1,10 @@
 // The command `import`: publishes a corpus as a library file.
-ghost use Rattle.std.specs.Prelude.{◌≡◌, ◌≢◌, IfOk, IfErr, OnOk, IsErrOf, Option, List, ℕ, string_bytes};
-ghost use Rattle.co_link.specs.Files.{file_at};
-ghost use Rattle.coeus.specs.Refusals.{TookWhole, TookPrefix};
+ghost use Rattle.std.specs.Prelude.{◌≡◌, IfOk, string_bytes};
+ghost use Rattle.coeus.specs.Words.{SpokenImport};
 ghost use Rattle.coeus.specs.Commands.{import_shown};
-ghost use Rattle.coeus.specs.Answers.{ImportAnswer, ImportCause, ChangesNothing, import_text};
+ghost use Rattle.coeus.specs.Outside.{Outside};
+ghost use Rattle.coeus.specs.Imports.{import_text};
+ghost use Rattle.coeus.specs.Runs.{Ended};
 
 use crate::plain::read_documents;
 use crate::refusals::Refusal;
@@ -14,7 +15,7 @@ use co_noise::Shape;
 use std::alloc::{AllocError, Global};
 
 // The line of a library's numbers.
-fn line_of(alloc: Global, shape: &Shape) -> Result<String, AllocError>
+fn numbers_line(alloc: Global, shape: &Shape) -> Result<String, AllocError>
     ensures { IfOk result (λ line. string_bytes line ≡ import_text shape.now) }
 {
     let documents = shape.documents();
@@ -35,23 +36,24 @@ pub fn import<F: Files, O: Sink>(
     files: &mut F,
     out: &mut O,
 ) -> Result<(), Refusal>
-    ensures ok { OnOk result ((text : List ℕ) × ImportAnswer (import_shown command.now) (F.held files.old) (F.held files.new) text × TookWhole (O.put_so_far out.old) (O.put_so_far out.new) text) }
-    ensures output { IsErrOf result Refusal.Output → (text : List ℕ) × ImportAnswer (import_shown command.now) (F.held files.old) (F.held files.new) text × TookPrefix (O.put_so_far out.old) (O.put_so_far out.new) text }
-    ensures nothing { IfErr result (λ e. e ≢ Refusal.Output → O.put_so_far out.new ≡ O.put_so_far out.old) }
-    ensures cause { IfErr result (ImportCause (import_shown command.now) (record { held = F.held files.old; files_before = F.faults files.old; files_now = F.faults files.new; last_failed = F.last_failed files.new; out_before = O.faults out.old; out_now = O.faults out.new })) }
-    ensures files { (name : List ℕ) → name ≢ command.now.library.now → file_at (F.held files.new) name ≡ file_at (F.held files.old) name }
-    ensures unchanged { IfErr result (ChangesNothing (F.held files.old) (F.held files.new)) }
+    ensures {
+        let was : Outside = record {
+            files = record { held = F.held files.old; faults = F.faults files.old; last_failed = F.last_failed files.old };
+            out = record { bytes = O.put_so_far out.old; faults = O.faults out.old };
+        } in
+        let is : Outside = record {
+            files = record { held = F.held files.new; faults = F.faults files.new; last_failed = F.last_failed files.new };
+            out = record { bytes = O.put_so_far out.new; faults = O.faults out.new };
+        } in
+        Ended (SpokenImport (import_shown command.now)) was is result }
 {
-    let corpus = match read_documents(alloc, command.corpus, files) {
-        Ok(corpus) => corpus,
-        Err(refusal) => return Err(refusal),
-    };
+    let corpus = read_documents(alloc, command.corpus, files)?;
     let library = match publish(alloc, &corpus, &command.settings) {
         Ok(library) => library,
         Err(PublishFault::OutOfMemory) => return Err(Refusal::Memory),
         Err(fault) => return Err(Refusal::Publish(fault)),
     };
-    let Ok(line) = line_of(alloc, library.shape()) else {
+    let Ok(line) = numbers_line(alloc, library.shape()) else {
         return Err(Refusal::Memory);
     };
     let Ok(bytes) = library.write(alloc) else {

@@ -1,35 +1,36 @@
 // Why the program refuses, with which status, and the line that it puts on the error output.
-ghost use Rattle.std.specs.Prelude.{◌≡◌, ◌++◌, IfOk, map, codes, string_bytes};
+ghost use Rattle.std.specs.Prelude.{◌≡◌, ◌≤◌, Ok, map, string_bytes};
 ghost use Rattle.co_link.specs.Causes.{Rose};
-ghost use Rattle.coeus.specs.Refusals.{status_of, status_of_corpus, status_of_publishing, setting_text, publishing_text, name_of, line_of, corpus_text, test_text, TookWhole, Told};
+ghost use Rattle.co_link.specs.Held.{Appends};
+ghost use Rattle.coeus.specs.Refusals.{status_of, status_of_corpus, status_of_publishing, with_number, line_text, corpus_text, test_text, setting_text, publishing_text, text_of, name_of, flat, Says};
+ghost use Rattle.coeus.specs.Outside.{SinkState};
 
 use co_corpus::CorpusFault;
 use co_library::{PublishFault, SettingName};
 use co_link::{FileKind, Sink};
 use co_noise::TestFault;
-use std::alloc::{AllocError, Global};
-use thiserror::Error;
+use itoa::Buffer;
 
 /// Why the program refuses. A fault of the corpus or of publishing that is want of memory reads as `Memory`.
-#[derive(Clone, Copy, Debug, PartialEq, Eq, Error)]
+#[derive(Clone, Copy)]
 pub enum Refusal {
-    #[error("wrong words")]
+    /// The words are outside the grammar.
     Words,
-    #[error("corpus: {0}")]
+    /// The file isn't a corpus.
     Corpus(CorpusFault),
-    #[error("corpus too long")]
+    /// The corpus file has more bytes than it may.
     CorpusTooLong,
-    #[error("{0}")]
+    /// The corpus isn't published, or a setting of `plain` is out of its range.
     Publish(PublishFault),
-    #[error("test: {0}")]
+    /// The shape leaves no room for noise.
     Test(TestFault),
-    #[error("{0} keywords, at most 16")]
+    /// The query has so many distinct terms, which are too many.
     Keywords(u32),
-    #[error("file")]
+    /// The command's own file couldn't be read or written.
     File(FileKind),
-    #[error("output")]
+    /// The output failed.
     Output,
-    #[error("memory")]
+    /// There is no memory for the work.
     Memory,
 }
 
@@ -38,13 +39,7 @@ fn status_of_corpus(fault: CorpusFault) -> u8
 {
     match fault {
         CorpusFault::OutOfMemory => 10,
-        CorpusFault::Empty => 3,
-        CorpusFault::BadJson { line: _ } => 3,
-        CorpusFault::NotObject { line: _ } => 3,
-        CorpusFault::NoText { line: _ } => 3,
-        CorpusFault::TitleNotText { line: _ } => 3,
-        CorpusFault::TextTooLong { line: _ } => 3,
-        CorpusFault::TooMany { line: _ } => 3,
+        _ => 3,
     }
 }
 
@@ -52,11 +47,9 @@ fn status_of_publishing(fault: PublishFault) -> u8
     ensures { result ≡ status_of_publishing fault }
 {
     match fault {
-        PublishFault::Setting { which: _ } => 3,
-        PublishFault::TooManyWeights { entries: _ } => 3,
-        PublishFault::TooBig { bytes: _ } => 3,
         PublishFault::Test(_) => 4,
         PublishFault::OutOfMemory => 10,
+        _ => 3,
     }
 }
 
@@ -78,72 +71,119 @@ impl Refusal {
     }
 }
 
-// The line of a corpus that isn't read.
-fn corpus_line(alloc: Global, fault: CorpusFault) -> Result<String, AllocError>
-    ensures { IfOk result (λ line. string_bytes line ≡ codes "coeus: " ++ corpus_text fault) }
+// Puts parts on the error output, up to the first that fails.
+fn put_parts<E: Sink>(parts: &[&str], err: &mut E)
+    ensures later { E.faults err.old ≤ E.faults err.new }
+    ensures says { ¬ (Rose (E.faults err.old) (E.faults err.new)) → Appends (E.put_so_far err.old) (E.put_so_far err.new) (flat (map (λ part. part.now) parts.now)) (Ok tt) }
 {
-    match fault {
-        CorpusFault::Empty => String::from_str(alloc, "coeus: corpus: no document\n"),
-        CorpusFault::BadJson { line } => {
-            format!(in alloc; "coeus: corpus line {line}: not JSON\n")
+    for part in parts {
+        if err.put(part.as_bytes()).is_err() {
+            return;
         }
-        CorpusFault::NotObject { line } => {
-            format!(in alloc; "coeus: corpus line {line}: not an object\n")
-        }
-        CorpusFault::NoText { line } => {
-            format!(in alloc; "coeus: corpus line {line}: no text\n")
-        }
-        CorpusFault::TitleNotText { line } => {
-            format!(in alloc; "coeus: corpus line {line}: title is not text\n")
-        }
-        CorpusFault::TextTooLong { line } => {
-            format!(in alloc; "coeus: corpus line {line}: text too long\n")
-        }
-        CorpusFault::TooMany { line } => {
-            format!(in alloc; "coeus: corpus line {line}: too many documents\n")
-        }
-        CorpusFault::OutOfMemory => String::from_str(alloc, "coeus: memory\n"),
     }
 }
 
-// The line of a shape that fails the test.
-fn test_line(alloc: Global, fault: TestFault) -> Result<String, AllocError>
-    ensures { IfOk result (λ line. string_bytes line ≡ codes "coeus: " ++ test_text fault) }
+// Says a text as a line on the error output. Its failure is let go.
+fn say<E: Sink>(parts: &[&str], err: &mut E)
+    ensures {
+        let was : SinkState = record { bytes = E.put_so_far err.old; faults = E.faults err.old } in
+        let is : SinkState = record { bytes = E.put_so_far err.new; faults = E.faults err.new } in
+        Says (flat (map (λ part. part.now) parts.now)) was is }
+{
+    put_parts(&["coeus: "], err);
+    put_parts(parts, err);
+    put_parts(&["\n"], err);
+}
+
+// Says a text with a number in it.
+fn say_number<E: Sink>(before: &str, number: u128, after: &str, err: &mut E)
+    ensures {
+        let was : SinkState = record { bytes = E.put_so_far err.old; faults = E.faults err.old } in
+        let is : SinkState = record { bytes = E.put_so_far err.new; faults = E.faults err.new } in
+        Says (with_number before.now number after.now) was is }
+{
+    let mut digits = Buffer::new();
+    say(&[before, digits.format(number), after], err);
+}
+
+// Says at which line a file isn't a corpus.
+fn say_line<E: Sink>(line: u64, what: &str, err: &mut E)
+    ensures {
+        let was : SinkState = record { bytes = E.put_so_far err.old; faults = E.faults err.old } in
+        let is : SinkState = record { bytes = E.put_so_far err.new; faults = E.faults err.new } in
+        Says (line_text line what.now) was is }
+{
+    let mut digits = Buffer::new();
+    say(&["corpus line ", digits.format(line), ": ", what], err);
+}
+
+// Says why a file isn't a corpus.
+fn say_corpus<E: Sink>(fault: CorpusFault, err: &mut E)
+    ensures {
+        let was : SinkState = record { bytes = E.put_so_far err.old; faults = E.faults err.old } in
+        let is : SinkState = record { bytes = E.put_so_far err.new; faults = E.faults err.new } in
+        Says (corpus_text fault) was is }
+{
+    match fault {
+        CorpusFault::Empty => say(&["corpus: no document"], err),
+        CorpusFault::BadJson { line } => say_line(line, "not JSON", err),
+        CorpusFault::NotObject { line } => say_line(line, "not an object", err),
+        CorpusFault::NoText { line } => say_line(line, "no text", err),
+        CorpusFault::TitleNotText { line } => say_line(line, "title is not text", err),
+        CorpusFault::TextTooLong { line } => say_line(line, "text too long", err),
+        CorpusFault::TooMany { line } => say_line(line, "too many documents", err),
+        CorpusFault::OutOfMemory => say(&["memory"], err),
+    }
+}
+
+// Says by which comparison a shape fails the test.
+fn say_test<E: Sink>(fault: TestFault, err: &mut E)
+    ensures {
+        let was : SinkState = record { bytes = E.put_so_far err.old; faults = E.faults err.old } in
+        let is : SinkState = record { bytes = E.put_so_far err.new; faults = E.faults err.new } in
+        Says (test_text fault) was is }
 {
     match fault {
         TestFault::RowsOverDegree { rows, degree } => {
-            format!(in alloc; "coeus: test: rows {rows} over degree {degree}\n")
+            let mut digits = Buffer::new();
+            let mut more_digits = Buffer::new();
+            let rows = digits.format(rows);
+            let degree = more_digits.format(degree);
+            say(&["test: rows ", rows, " over degree ", degree], err);
         }
-        TestFault::Score { bound } => format!(in alloc; "coeus: test: score bound {bound}\n"),
-        TestFault::Records { bound } => format!(in alloc; "coeus: test: records bound {bound}\n"),
-        TestFault::Bins { bound } => format!(in alloc; "coeus: test: bins bound {bound}\n"),
+        TestFault::Score { bound } => say_number("test: score bound ", bound, "", err),
+        TestFault::Records { bound } => say_number("test: records bound ", bound, "", err),
+        TestFault::Bins { bound } => say_number("test: bins bound ", bound, "", err),
     }
 }
 
-// The line of a setting that is out of its range.
-fn setting_line(alloc: Global, which: SettingName) -> Result<String, AllocError>
-    ensures { IfOk result (λ line. string_bytes line ≡ codes "coeus: " ++ setting_text which) }
+// The text of a setting that is out of its range.
+fn setting_text(which: SettingName) -> &'static str
+    ensures { result.now ≡ setting_text which }
 {
     match which {
-        SettingName::Degree => String::from_str(alloc, "coeus: setting degree out of range\n"),
-        SettingName::Terms => String::from_str(alloc, "coeus: setting terms out of range\n"),
-        SettingName::Hits => String::from_str(alloc, "coeus: setting hits out of range\n"),
-        SettingName::Chunks => String::from_str(alloc, "coeus: setting chunks out of range\n"),
+        SettingName::Degree => "setting degree out of range",
+        SettingName::Terms => "setting terms out of range",
+        SettingName::Hits => "setting hits out of range",
+        SettingName::Chunks => "setting chunks out of range",
     }
 }
 
-// The line of a corpus that isn't published.
-fn publishing_line(alloc: Global, fault: PublishFault) -> Result<String, AllocError>
-    ensures { IfOk result (λ line. string_bytes line ≡ codes "coeus: " ++ publishing_text fault) }
+// Says why a corpus isn't published.
+fn say_publishing<E: Sink>(fault: PublishFault, err: &mut E)
+    ensures {
+        let was : SinkState = record { bytes = E.put_so_far err.old; faults = E.faults err.old } in
+        let is : SinkState = record { bytes = E.put_so_far err.new; faults = E.faults err.new } in
+        Says (publishing_text fault) was is }
 {
     match fault {
-        PublishFault::Setting { which } => setting_line(alloc, which),
+        PublishFault::Setting { which } => say(&[setting_text(which)], err),
         PublishFault::TooManyWeights { entries } => {
-            format!(in alloc; "coeus: too many weights {entries}\n")
+            say_number("too many weights ", entries as u128, "", err);
         }
-        PublishFault::TooBig { bytes } => format!(in alloc; "coeus: bins of {bytes} bytes\n"),
-        PublishFault::Test(fault) => test_line(alloc, fault),
-        PublishFault::OutOfMemory => String::from_str(alloc, "coeus: memory\n"),
+        PublishFault::TooBig { bytes } => say_number("bins of ", bytes as u128, " bytes", err),
+        PublishFault::Test(fault) => say_test(fault, err),
+        PublishFault::OutOfMemory => say(&["memory"], err),
     }
 }
 
@@ -163,50 +203,24 @@ fn name_of(kind: FileKind, words: &[String]) -> &str
     }
 }
 
-/// The line of a refusal.
-pub fn line_of(alloc: Global, words: &[String], refusal: Refusal) -> Result<String, AllocError>
-    ensures { IfOk result (λ line. string_bytes line ≡ line_of (map string_bytes words.now) refusal) }
+/// Says a refusal on the error output, and gives its status. It takes no memory.
+pub fn tell<E: Sink>(words: &[String], refusal: Refusal, err: &mut E) -> u8
+    ensures status { result ≡ status_of refusal }
+    ensures says {
+        let was : SinkState = record { bytes = E.put_so_far err.old; faults = E.faults err.old } in
+        let is : SinkState = record { bytes = E.put_so_far err.new; faults = E.faults err.new } in
+        Says (text_of (map string_bytes words.now) refusal) was is }
 {
     match refusal {
-        Refusal::Words => String::from_str(alloc, "coeus: wrong words\n"),
-        Refusal::Corpus(fault) => corpus_line(alloc, fault),
-        Refusal::CorpusTooLong => String::from_str(alloc, "coeus: corpus too long\n"),
-        Refusal::Publish(fault) => publishing_line(alloc, fault),
-        Refusal::Test(fault) => test_line(alloc, fault),
-        Refusal::Keywords(found) => format!(in alloc; "coeus: {found} keywords, at most 16\n"),
-        Refusal::File(kind) => {
-            let name = name_of(kind, words);
-            format!(in alloc; "coeus: file {name}\n")
-        }
-        Refusal::Output => String::from_str(alloc, "coeus: output\n"),
-        Refusal::Memory => String::from_str(alloc, "coeus: memory\n"),
+        Refusal::Words => say(&["wrong words"], err),
+        Refusal::Corpus(fault) => say_corpus(fault, err),
+        Refusal::CorpusTooLong => say(&["corpus too long"], err),
+        Refusal::Publish(fault) => say_publishing(fault, err),
+        Refusal::Test(fault) => say_test(fault, err),
+        Refusal::Keywords(found) => say_number("", found as u128, " keywords, at most 16", err),
+        Refusal::File(kind) => say(&["file ", name_of(kind, words)], err),
+        Refusal::Output => say(&["output"], err),
+        Refusal::Memory => say(&["memory"], err),
     }
-}
-
-/// Puts a line on the error output. A failure of it is let go.
-pub fn say<E: Sink>(line: &[u8], err: &mut E)
-    ensures { ¬ (Rose (E.faults err.old) (E.faults err.new)) → TookWhole (E.put_so_far err.old) (E.put_so_far err.new) line.now }
-{
-    let _ = err.put(line);
-}
-
-/// Says a refusal on the error output, and gives its status. Where its line takes memory that isn't
-/// there, it tells want of memory; the line of a failed output takes none.
-pub fn tell<E: Sink>(alloc: Global, words: &[String], refusal: Refusal, err: &mut E) -> u8
-    ensures { Told (map string_bytes words.now) refusal (E.faults err.old) (E.faults err.new) (E.put_so_far err.old) (E.put_so_far err.new) result }
-{
-    if let Refusal::Output = refusal {
-        say(b"coeus: output\n", err);
-        return 9;
-    }
-    match line_of(alloc, words, refusal) {
-        Ok(line) => {
-            say(line.as_bytes(), err);
-            refusal.status()
-        }
-        Err(_) => {
-            say(b"coeus: memory\n", err);
-            10
-        }
-    }
+    refusal.status()
 }

@@ -1,11 +1,12 @@
 // The command `shape`: the noise bounds of published numbers, and the test.
-ghost use Rattle.std.specs.Prelude.{map, string_bytes};
-ghost use Rattle.coeus.specs.Shows.{Shows, SaysFault};
 ghost use Rattle.std.specs.Prelude.{◌≡◌, ◌++◌, [], ◌∷◌, IfOk, OnOk, codes};
-ghost use Rattle.coeus.specs.Answers.{number_line, test_word, shape_text};
 ghost use Rattle.co_noise.specs.Bounds.{test_of};
+ghost use Rattle.coeus.specs.Words.{SpokenShape};
+ghost use Rattle.coeus.specs.Outside.{Outside, FilesState};
+ghost use Rattle.coeus.specs.ShapeLines.{number_line, test_word, shape_text};
+ghost use Rattle.coeus.specs.Runs.{Ended};
 
-use crate::refusals::{Refusal, line_of};
+use crate::refusals::Refusal;
 use co_link::{Bytes, Sink};
 use co_noise::{
     Shape, TestFault, fresh_bound, modulus, retrieve_bound, score_bound, switch_bound, test,
@@ -42,7 +43,7 @@ fn add_test(alloc: Global, out: &mut Bytes, word: &str) -> Result<(), AllocError
 }
 
 /// The seven lines of a shape: the bounds, the modulus, and the answer of the test.
-#[tactic(auto, unfolding(crate::specs::Answers::shape_text))]
+#[tactic(auto, unfolding(crate::specs::ShapeLines::shape_text))]
 pub fn shape_text(alloc: Global, shape: &Shape) -> Result<Bytes, AllocError>
     ensures { IfOk result (λ text. text ≡ shape_text shape.now) }
 {
@@ -68,34 +69,21 @@ pub fn shape_text(alloc: Global, shape: &Shape) -> Result<Bytes, AllocError>
     Ok(out)
 }
 
-// The line that says by which comparison a shape fails the test, if it does.
-fn fault_line(alloc: Global, words: &[String], shape: &Shape) -> Result<Option<String>, AllocError>
-    ensures { IfOk result (SaysFault (map string_bytes words.now) shape.now) }
-{
-    match test(shape) {
-        Ok(_) => Ok(None),
-        Err(fault) => Ok(Some(line_of(alloc, words, Refusal::Test(fault))?)),
-    }
-}
-
-/// Puts the lines of a shape. Where it fails the test, the result has the line that says by which comparison; it is made
-/// before anything is put.
-pub fn show<O: Sink>(
-    alloc: Global,
-    words: &[String],
-    shape: &Shape,
-    out: &mut O,
-) -> Result<Option<String>, Refusal>
-    ensures { Shows (map string_bytes words.now) shape.now (O.put_so_far out.old) (O.put_so_far out.new) (O.faults out.old) (O.faults out.new) result }
+/// Puts the lines of a shape. It has nothing to do with files.
+pub fn show<O: Sink>(alloc: Global, shape: &Shape, out: &mut O) -> Result<(), Refusal>
+    ensures { (files : FilesState) →
+        let was : Outside = record { files = files; out = record { bytes = O.put_so_far out.old; faults = O.faults out.old } } in
+        let is : Outside = record { files = files; out = record { bytes = O.put_so_far out.new; faults = O.faults out.new } } in
+        Ended (SpokenShape shape.now) was is result }
 {
     let Ok(text) = shape_text(alloc, shape) else {
         return Err(Refusal::Memory);
     };
-    let Ok(line) = fault_line(alloc, words, shape) else {
-        return Err(Refusal::Memory);
-    };
-    match out.put(text.as_slice()) {
-        Ok(()) => Ok(line),
-        Err(_) => Err(Refusal::Output),
+    if out.put(text.as_slice()).is_err() {
+        return Err(Refusal::Output);
+    }
+    match test(shape) {
+        Ok(_) => Ok(()),
+        Err(fault) => Err(Refusal::Test(fault)),
     }
 }

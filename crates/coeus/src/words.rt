@@ -1,40 +1,80 @@
 // The words of the command line: a command, its positional words, options in any order, and a query.
 ghost use Rattle.std.specs.Prelude.{◌≡◌, ◌++◌, IfOk, string_bytes, map, option_map};
-ghost use Rattle.coeus.specs.Words.{plain_words, import_words, settings_of, shape_words, joined};
-ghost use Rattle.coeus.specs.Commands.{plain_shown, import_shown, rest_shown};
+ghost use Rattle.coeus.specs.Words.{plain_words, import_words, settings_of, shape_words, spoken, joined};
+ghost use Rattle.coeus.specs.Commands.{command_shown, plain_shown, import_shown, rest_shown};
 
-use crate::options::{OptionsAndQuery, read_number, read_options};
+use crate::limits::{
+    DEFAULT_CHUNKS, DEFAULT_DEGREE, DEFAULT_HITS, DEFAULT_SALT, DEFAULT_TERMS,
+};
+use crate::options::{OptionsAndQuery, read_options, read_short};
 use co_library::Settings;
 use co_noise::Shape;
 use std::alloc::{AllocError, Global};
 
-/// What `plain CORPUS` is to do: the file, the most terms of the vocabulary and the most hits, the rank of the picked hit,
-/// and the words of the query.
+/// What `plain CORPUS` is to do.
 #[derive(Clone, Copy)]
 pub struct PlainCommand<'a> {
+    /// The name of the corpus file.
     pub corpus: &'a str,
+    /// The most terms of the vocabulary.
     pub terms: u32,
+    /// The most hits.
     pub hits: u32,
+    /// The rank of the hit whose document is printed, from 1.
     pub pick: u32,
+    /// The words of the query.
     pub query: &'a [String],
 }
 
-/// What `import CORPUS LIBRARY` is to do: the two files, and the settings.
+/// What `import CORPUS LIBRARY` is to do.
 #[derive(Clone, Copy)]
 pub struct ImportCommand<'a> {
+    /// The name of the corpus file.
     pub corpus: &'a str,
+    /// The name of the library file.
     pub library: &'a str,
+    /// How the corpus is published.
     pub settings: Settings,
 }
 
-/// Reads `plain CORPUS`, options, `--` and a query.
-pub fn read_plain(words: &[String]) -> Option<PlainCommand<'_>>
+/// What the words of the command line ask for.
+#[derive(Clone, Copy)]
+pub enum Command<'a> {
+    Plain(PlainCommand<'a>),
+    Import(ImportCommand<'a>),
+    Shape(Shape),
+    /// Nothing that is in the grammar.
+    Wrong,
+}
+
+/// Reads a command, the words behind it, and what they say.
+#[tactic(auto, unfolding(crate::specs::Words::spoken))]
+pub fn read_command(words: &[String]) -> Command<'_>
+    ensures { command_shown result ≡ spoken (map string_bytes words.now) }
+{
+    let [command, words @ ..] = words else {
+        return Command::Wrong;
+    };
+    let command = command.as_str();
+    if command == "plain" {
+        read_plain(words).map_or(Command::Wrong, Command::Plain)
+    } else if command == "import" {
+        read_import(words).map_or(Command::Wrong, Command::Import)
+    } else if command == "shape" {
+        read_shape(words).map_or(Command::Wrong, Command::Shape)
+    } else {
+        Command::Wrong
+    }
+}
+
+// Reads CORPUS, options, `--` and a query.
+fn read_plain(words: &[String]) -> Option<PlainCommand<'_>>
     ensures { option_map plain_shown result ≡ plain_words (map string_bytes words.now) }
 {
-    let [command, corpus, rest @ ..] = words else {
+    let [corpus, rest @ ..] = words else {
         return None;
     };
-    if command.as_str() != "plain" || corpus.as_str().starts_with('-') {
+    if corpus.as_str().starts_with('-') {
         return None;
     }
     let rest = read_options(rest)?;
@@ -42,8 +82,8 @@ pub fn read_plain(words: &[String]) -> Option<PlainCommand<'_>>
     let pick = rest.options.pick()?;
     Some(PlainCommand {
         corpus: corpus.as_str(),
-        terms: rest.options.terms.unwrap_or(16_384),
-        hits: rest.options.hits.unwrap_or(16),
+        terms: rest.options.terms.unwrap_or(DEFAULT_TERMS),
+        hits: rest.options.hits.unwrap_or(DEFAULT_HITS),
         pick,
         query,
     })
@@ -53,32 +93,26 @@ pub fn read_plain(words: &[String]) -> Option<PlainCommand<'_>>
 fn settings_of(rest: OptionsAndQuery<'_>) -> Option<Settings>
     ensures { result ≡ settings_of (rest_shown rest.entry) }
 {
-    if rest.options.pick.is_some() {
-        return None;
-    }
-    if rest.query.is_some() {
+    if rest.options.pick.is_some() || rest.query.is_some() {
         return None;
     }
     Some(Settings {
-        degree: rest.options.degree.unwrap_or(4_096),
-        terms: rest.options.terms.unwrap_or(16_384),
-        hits: rest.options.hits.unwrap_or(16),
-        salt: rest.options.salt.unwrap_or(0),
-        chunks: rest.options.chunks.unwrap_or(1),
+        degree: rest.options.degree.unwrap_or(DEFAULT_DEGREE),
+        terms: rest.options.terms.unwrap_or(DEFAULT_TERMS),
+        hits: rest.options.hits.unwrap_or(DEFAULT_HITS),
+        salt: rest.options.salt.unwrap_or(DEFAULT_SALT),
+        chunks: rest.options.chunks.unwrap_or(DEFAULT_CHUNKS),
     })
 }
 
-/// Reads `import CORPUS LIBRARY` and options.
-pub fn read_import(words: &[String]) -> Option<ImportCommand<'_>>
+// Reads CORPUS, LIBRARY and options.
+fn read_import(words: &[String]) -> Option<ImportCommand<'_>>
     ensures { option_map import_shown result ≡ import_words (map string_bytes words.now) }
 {
-    let [command, corpus, library, rest @ ..] = words else {
+    let [corpus, library, rest @ ..] = words else {
         return None;
     };
-    if command.as_str() != "import" || corpus.as_str().starts_with('-') {
-        return None;
-    }
-    if library.as_str().starts_with('-') {
+    if corpus.as_str().starts_with('-') || library.as_str().starts_with('-') {
         return None;
     }
     let settings = settings_of(read_options(rest)?)?;
@@ -89,20 +123,17 @@ pub fn read_import(words: &[String]) -> Option<ImportCommand<'_>>
     })
 }
 
-/// Reads `shape DEGREE TERMS ROWS BINS`, each in its range. The other numbers of the shape are the least.
-pub fn read_shape(words: &[String]) -> Option<Shape>
+// Reads DEGREE, TERMS, ROWS and BINS, each in its range. The other numbers of the shape are the least.
+fn read_shape(words: &[String]) -> Option<Shape>
     ensures { result ≡ shape_words (map string_bytes words.now) }
 {
-    let [command, degree, terms, rows, bins] = words else {
+    let [degree, terms, rows, bins] = words else {
         return None;
     };
-    if command.as_str() != "shape" {
-        return None;
-    }
-    let degree = read_number(degree.as_str())?;
-    let terms = read_number(terms.as_str())?;
-    let rows = read_number(rows.as_str())?;
-    let bins = read_number(bins.as_str())?;
+    let degree = read_short(degree.as_str())?;
+    let terms = read_short(terms.as_str())?;
+    let rows = read_short(rows.as_str())?;
+    let bins = read_short(bins.as_str())?;
     Shape::new(degree, 1, terms, 1, 0, rows, bins, 1)
 }
 

@@ -1,0 +1,42 @@
+-- What the program meets outside itself, at one moment of a call.
+use Rattle.std.specs.Prelude.{◌≡◌, ℕ, ◌≤◌, List, Option, Some, Ok, Err, IsSome, length}
+use Rattle.co_link.specs.Causes.{Rose}
+use Rattle.co_link.specs.Files.{Folder, FileCall, file_at, IsLonger}
+use Rattle.co_link.specs.Held.{Appends}
+use Rattle.co_link.specs.declared.sink.Failed.{Failed}
+use Rattle.coeus.specs.declared.limits.TheConstants.{MAX_CORPUS}
+
+-- what files hold, where they tell it, how often a call of theirs failed, and the last that failed
+pub record FilesState : Type 0 where
+  pub held : Option Folder
+  pub faults : ℕ
+  pub last_failed : Option FileCall
+
+-- what was put so far, where the sink tells it, and how often a put failed
+pub record SinkState : Type 0 where
+  pub bytes : Option (List ℕ)
+  pub faults : ℕ
+
+-- the files and the output
+pub record Outside : Type 0 where
+  pub files : FilesState
+  pub out : SinkState
+
+-- a sink took these bytes, whole
+abbrev pub Took : SinkState → SinkState → List ℕ → Type 0
+Took was is text = Appends was.bytes is.bytes text (Ok tt)
+
+-- a put of these bytes failed, of which a front was taken
+pub record TookFront (was is : SinkState) (text : List ℕ) : Type 0 where
+  pub front : Appends was.bytes is.bytes text (Err (record {}))
+  pub rose : Rose was.faults is.faults
+
+-- this call on the files failed
+pub record Fails (call : FileCall) (was is : FilesState) : Type 0 where
+  pub rose : Rose was.faults is.faults
+  pub last : is.last_failed ≡ Some call
+
+-- no count of faults rose
+pub record HasNoFault (was is : Outside) : Type 0 where
+  pub files : ¬ Rose was.files.faults is.files.faults
+  pub out : ¬ Rose was.out.faults is.out.faults

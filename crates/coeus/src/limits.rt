@@ -1,0 +1,28 @@
+// The program's limits, and what stands for an option that isn't given.
+
+/// The most bytes of a corpus file.
+pub const MAX_CORPUS: u64 = 268_435_456;
+
+/// The most digits of a number of 32 bits.
+pub const SHORT_DIGITS: usize = 10;
+
+/// The last rank that may be picked.
+pub const MAX_PICK: u32 = 64;
+
+/// The degree of a library, if no other is asked.
+pub const DEFAULT_DEGREE: u32 = 4_096;
+
+/// The most terms of a vocabulary, if no other number is asked.
+pub const DEFAULT_TERMS: u32 = 16_384;
+
+/// The most hits of a search, if no other number is asked.
+pub const DEFAULT_HITS: u32 = 16;
+
+/// The salt of the buckets, if no other is asked.
+pub const DEFAULT_SALT: u32 = 0;
+
+/// The fewest chunks of a bin, if no other number is asked.
+pub const DEFAULT_CHUNKS: u32 = 1;
+
+/// The rank of the hit whose document is printed, if no other is asked.
+pub const DEFAULT_PICK: u32 = 1;
