@@ -1,13 +1,18 @@
 -- A line that is put in parts.
-use Rattle.std.proofs.Common.{◌≡◌, ℕ, ◌≤◌, List, [], ◌∷◌, ◌++◌, Option, Some, None, Ok, refl, sym, ap, subst, ◌∙◌, append_assoc, append_nil, map, arith}
+use Rattle.std.proofs.Common.{◌≡◌, ℕ, ◌≤◌, List, [], ◌∷◌, ◌++◌, Option, Some, None, Ok, refl, sym, ap, subst, ◌∙◌, append_assoc, append-nil, map, take, length, ◌+◌, ◌<◌, get_or, true, Bor, arith}
+use Rattle.std.specs.Prelude.{Result, is_ok, Err, IsErr}
+use Rattle.std.proofs.lemmas.List.{take_more}
+use mathlib.Core.Bool.{true≢false}
 use Rattle.co_link.specs.Causes.{Rose}
 use Rattle.co_link.specs.Held.{Appends}
-use Rattle.coeus.specs.Refusals.{flat}
+use Rattle.co_link.specs.declared.sink.Failed.{Failed}
+use Rattle.coeus.specs.Outside.{SinkState}
+use Rattle.coeus.specs.Refusals.{flat, Says}
 
 -- no piece
 pub took_nothing : (was : Option (List ℕ)) → Appends was was [] (Ok tt)
 took_nothing None = refl
-took_nothing (Some old) = ap Some (sym (append_nil old))
+took_nothing (Some old) = ap Some (sym (append-nil old))
 
 -- two pieces, one after the other, are one
 pub took_more : (was mid is : Option (List ℕ)) (p q : List ℕ) → Appends was mid p (Ok tt) → Appends mid is q (Ok tt)
@@ -18,8 +23,25 @@ took_more (Some old) mid is p q first second =
 
 -- one part more
 pub flat-more : {A : Type 0} (f : A → List ℕ) (xs : List A) (x : A) → flat (map f (xs ++ x ∷ [])) ≡ flat (map f xs) ++ f x
-flat-more f [] x = append_nil (f x)
+flat-more f [] x = append-nil (f x)
 flat-more f (y ∷ ys) x = ap (λ (t : List ℕ). f y ++ t) (flat-more f ys x) ∙ sym (append_assoc (f y) (flat (map f ys)) (f x))
+
+appended : (was is : Option (List ℕ)) (piece : List ℕ) (r : Result (Unit {0}) Failed) → is_ok r ≡ true → Appends was is piece r → Appends was is piece (Ok tt)
+appended was is piece (Ok u) ok took = took
+appended was is piece (Err failed) ok took = absurd (true≢false (sym ok))
+
+-- the parts up to this one were put, and this one too
+pub part_more : (xs : List (Bor (List ℕ))) (i : ℕ) (d : Bor (List ℕ)) (was mid is : Option (List ℕ)) (piece : List ℕ) (r : Result (Unit {0}) Failed)
+    → i < length xs → piece ≡ (get_or xs i d).now → is_ok r ≡ true
+    → Appends was mid (flat (map (λ x. x.now) (take i xs))) (Ok tt) → Appends mid is piece r
+    → Appends was is (flat (map (λ x. x.now) (take (i + 1) xs))) (Ok tt)
+part_more xs i d was mid is piece r within same ok first second =
+    let now : Bor (List ℕ) → List ℕ = λ x. x.now in
+    let all = took_more was mid is (flat (map now (take i xs))) piece first (appended mid is piece r ok second) in
+    let text : flat (map now (take i xs)) ++ piece ≡ flat (map now (take (i + 1) xs)) =
+        ap (λ (t : List ℕ). flat (map now (take i xs)) ++ t) same ∙ sym (flat-more now (take i xs) (get_or xs i d))
+        ∙ ap (λ (ys : List (Bor (List ℕ))). flat (map now ys)) (sym (take_more xs i d within)) in
+    subst (λ (t : List ℕ). Appends was is t (Ok tt)) text all
 
 -- three puts, of which none failed where the count didn't rise
 pub said : (a b c d : ℕ) (was one two is : Option (List ℕ)) (p q r : List ℕ) → a ≤ b → b ≤ c → c ≤ d
@@ -28,3 +50,7 @@ pub said : (a b c d : ℕ) (was one two is : Option (List ℕ)) (p q r : List �
 said a b c d was one two is p q r ab bc cd first second third kept =
     let rest = took_more one two is q r (second (λ rose. kept (omega (arith, rose)))) (third (λ rose. kept (omega (arith, rose)))) in
     took_more was one is p (q ++ r) (first (λ rose. kept (omega (arith, rose)))) rest
+
+-- an equal text is said by the same line
+pub says_as : (a b : List ℕ) (was is : SinkState) → a ≡ b → Says a was is → Says b was is
+says_as a b was is same says = subst (λ (text : List ℕ). Says text was is) same says

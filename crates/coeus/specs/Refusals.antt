@@ -45,12 +45,17 @@ name_of Read (command ∷ name ∷ others) = name
 name_of Write (command ∷ corpus ∷ name ∷ others) = name
 name_of kind others = []
 
+-- parts of a text, one after another
+abbrev pub flat : List (List ℕ) → List ℕ
+flat [] = []
+flat (part ∷ parts) = part ++ flat parts
+
 -- a text with a number in it
 abbrev pub with_number : List ℕ → ℕ → List ℕ → List ℕ
-with_number before number after = before ++ (decimal number ++ after)
+with_number before number after = flat (before ∷ decimal number ∷ after ∷ [])
 
 abbrev pub line_text : ℕ → List ℕ → List ℕ
-line_text line what = with_number (codes "corpus line ") line (codes ": " ++ what)
+line_text line what = flat (codes "corpus line " ∷ decimal line ∷ codes ": " ∷ what ∷ [])
 
 abbrev pub corpus_text : CorpusFault → List ℕ
 corpus_text Empty = codes "corpus: no document"
@@ -63,7 +68,7 @@ corpus_text (TooMany line) = line_text line (codes "too many documents")
 corpus_text OutOfMemory = codes "memory"
 
 abbrev pub test_text : TestFault → List ℕ
-test_text (RowsOverDegree rows degree) = with_number (codes "test: rows ") rows (with_number (codes " over degree ") degree [])
+test_text (RowsOverDegree rows degree) = flat (codes "test: rows " ∷ decimal rows ∷ codes " over degree " ∷ decimal degree ∷ [])
 test_text (Score bound) = with_number (codes "test: score bound ") bound []
 test_text (Records bound) = with_number (codes "test: records bound ") bound []
 test_text (Bins bound) = with_number (codes "test: bins bound ") bound []
@@ -89,14 +94,9 @@ text_of words CorpusTooLong = codes "corpus too long"
 text_of words (Publish fault) = publishing_text fault
 text_of words (Test fault) = test_text fault
 text_of words (Keywords found) = with_number [] found (codes " keywords, at most 16")
-text_of words (File kind) = codes "file " ++ name_of kind words
+text_of words (File kind) = flat (codes "file " ∷ name_of kind words ∷ [])
 text_of words Output = codes "output"
 text_of words Memory = codes "memory"
-
--- parts of a text, one after another
-abbrev pub flat : List (List ℕ) → List ℕ
-flat [] = []
-flat (part ∷ parts) = part ++ flat parts
 
 -- a text as a line
 abbrev pub line : List ℕ → List ℕ

@@ -3,7 +3,7 @@ ghost use Rattle.std.specs.Prelude.{◌≡◌, ◌≤◌, length, IfOk, IfErr, O
 ghost use Rattle.co_text.specs.Terms.{distinct};
 ghost use Rattle.co_text.specs.Printed.{printed};
 ghost use Rattle.co_text.specs.declared.terms.TheConstants.{MAX_KEYWORDS};
-ghost use Rattle.co_tfidf.specs.Found.{found};
+ghost use Rattle.co_tfidf.specs.Found.{found, IsIndex};
 ghost use Rattle.coeus.specs.Words.{SpokenPlain};
 ghost use Rattle.coeus.specs.Commands.{plain_shown};
 ghost use Rattle.coeus.specs.Outside.{Outside, FilesState};
@@ -16,8 +16,8 @@ use crate::words::{PlainCommand, join};
 use co_corpus::{Corpus, CorpusFault, read_corpus};
 use co_library::{PublishFault, Settings};
 use co_link::{Bytes, FileFault, FileKind, Files, Sink};
-use co_text::{QueryFault, Terms, query_terms, render};
-use co_tfidf::{build_index, plain_search};
+use co_text::{Found, QueryFault, Terms, query_terms, render};
+use co_tfidf::{Index, build_index, plain_search};
 use std::alloc::{AllocError, Global};
 
 // The settings that the command's own are checked among.
@@ -33,18 +33,36 @@ fn settings_of(command: &PlainCommand<'_>) -> Settings
     }
 }
 
-// Searches a corpus for the terms of a query, by the index of the command's vocabulary.
+// What is found by the index of a vocabulary of at most so many terms.
+fn find(
+    alloc: Global,
+    corpus: &Corpus,
+    index: &Index,
+    terms: u32,
+    query: &Terms,
+    command: &PlainCommand<'_>,
+) -> Result<Found, AllocError>
+    ghost most: { ℕ }
+    requires same { most ≡ terms }
+    requires index { IsIndex most corpus.now index.now }
+    requires few { length (distinct query.now) ≤ MAX_KEYWORDS }
+    ensures { IfOk result (λ f. f ≡ found terms corpus.now command.now.hits query.now command.now.pick) }
+{
+    plain_search(alloc, corpus, index, query, command.hits, command.pick)
+}
+
+// The text of what is found in a corpus for the terms of a query.
 fn search(
     alloc: Global,
     corpus: &Corpus,
     query: &Terms,
     command: &PlainCommand<'_>,
 ) -> Result<Bytes, AllocError>
-    requires few { length (distinct query.now) ≤ MAX_KEYWORDS }
+    requires { length (distinct query.now) ≤ MAX_KEYWORDS }
     ensures { IfOk result (λ text. text ≡ printed (found command.now.terms corpus.now command.now.hits query.now command.now.pick)) }
 {
     let index = build_index(alloc, corpus, command.terms)?;
-    let found = plain_search(alloc, corpus, &index, query, command.hits, command.pick)?;
+    let found = find(alloc, corpus, &index, command.terms, query, command)?;
     render(alloc, &found)
 }
 
@@ -56,6 +74,7 @@ pub fn read_documents<F: Files>(alloc: Global, name: &str, files: &mut F) -> Res
         let is : FilesState = record { held = F.held files.new; faults = F.faults files.new; last_failed = F.last_failed files.new } in
         IfErr result (ReadCause name.now was is) }
     ensures files { F.held files.new ≡ F.held files.old }
+    ensures later { F.faults files.old ≤ F.faults files.new }
 {
     let bytes = match files.read(name, MAX_CORPUS) {
         Ok(bytes) => bytes,

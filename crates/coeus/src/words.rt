@@ -57,11 +57,20 @@ pub fn read_command(words: &[String]) -> Command<'_>
     };
     let command = command.as_str();
     if command == "plain" {
-        read_plain(words).map_or(Command::Wrong, Command::Plain)
+        match read_plain(words) {
+            Some(command) => Command::Plain(command),
+            None => Command::Wrong,
+        }
     } else if command == "import" {
-        read_import(words).map_or(Command::Wrong, Command::Import)
+        match read_import(words) {
+            Some(command) => Command::Import(command),
+            None => Command::Wrong,
+        }
     } else if command == "shape" {
-        read_shape(words).map_or(Command::Wrong, Command::Shape)
+        match read_shape(words) {
+            Some(shape) => Command::Shape(shape),
+            None => Command::Wrong,
+        }
     } else {
         Command::Wrong
     }

@@ -1,0 +1,32 @@
+-- What `import` leaves, from what its steps gave.
+use Rattle.std.proofs.Common.{◌≡◌, ◌≤◌, List, ℕ, Option, Some, None, sym, ap, subst, ◌∙◌, arith}
+use Rattle.std.specs.Prelude.{IsSome}
+use Rattle.co_link.specs.Causes.{Rose}
+use Rattle.co_link.specs.Files.{Folder, file_at}
+use Rattle.co_corpus.specs.declared.documents.Document.{Document}
+use Rattle.co_library.specs.Libraries.{Parts}
+use Rattle.co_library.specs.Files.{library_bytes}
+use Rattle.co_library.specs.Refusals.{IsPublished}
+use Rattle.coeus.specs.Words.{ImportWords}
+use Rattle.coeus.specs.Searches.{HasCorpus}
+use Rattle.coeus.specs.Imports.{ImportAnswer, import_text}
+
+-- files that a read left alone, and then the library's bytes put under its name
+pub import_answer : (i : ImportWords) (held mid now : Option Folder) (documents : List Document) (library : Parts) (put line : List ℕ)
+    → HasCorpus held i.corpus documents → IsPublished documents i.settings library → mid ≡ held
+    → (IsSome mid → file_at now i.library ≡ Some (Some put)) → put ≡ library_bytes library → line ≡ import_text library.shape
+    → ImportAnswer i held now line
+import_answer i held mid now documents library put line corpus published same stands bytes text = record {
+  library = library;
+  of_corpus = record { documents = documents; corpus = corpus; published = published };
+  written = λ told. stands (subst (λ (h : Option Folder). IsSome h) (sym same) told) ∙ ap (λ (b : List ℕ). Some (Some b)) bytes;
+  text_is = text;
+}
+
+-- what a read and then a write leave of another name
+pub others_kept : (held mid now : Option Folder) (name : List ℕ) → mid ≡ held → file_at now name ≡ file_at mid name → file_at now name ≡ file_at held name
+others_kept held mid now name same kept = kept ∙ ap (λ (h : Option Folder). file_at h name) same
+
+-- a count that rose from a later time rose from an earlier one
+pub rose_since : (a b c : ℕ) → a ≤ b → Rose b c → Rose a c
+rose_since a b c later rose = omega (arith, later, rose)
