@@ -8,7 +8,8 @@ use Rattle.coeus.specs.declared.words.Command.{Command}
 use Rattle.coeus.specs.declared.words.Command.TheVariants.{Plain, Import, Shape, Wrong}
 
 abbrev pub rest_shown : OptionsAndQuery → Rest
-rest_shown r = record { options = r.options; query = option_map (λ q. map string_bytes q.now) r.query }
+rest_shown r =
+    record { options = r.options; query = option_map (λ q. map string_bytes q.now) r.query }
 
 abbrev pub plain_shown : PlainCommand → PlainWords
 plain_shown p = record {

@@ -16,8 +16,10 @@ use Rattle.coeus.specs.declared.refusals.Refusal.TheVariants.{Words, Corpus, Cor
 
 -- what is printed of a library's published numbers
 abbrev pub import_text : Numbers → List ℕ
-import_text s = codes "documents " ++ (decimal s.documents ++ (codes " terms " ++ (decimal s.terms ++ (codes " rows "
-    ++ (decimal s.rows ++ (codes " bins " ++ (decimal s.bins ++ (codes " chunks " ++ (decimal s.chunks ++ (10 ∷ []))))))))))
+import_text s =
+    codes "documents " ++ (decimal s.documents ++ (codes " terms " ++ (decimal s.terms
+    ++ (codes " rows " ++ (decimal s.rows ++ (codes " bins " ++ (decimal s.bins
+    ++ (codes " chunks " ++ (decimal s.chunks ++ (10 ∷ []))))))))))
 
 -- the library of the corpus and the settings
 pub record HasLibrary (i : ImportWords) (held : Option Folder) (library : Parts) : Type 0 where
@@ -33,7 +35,8 @@ pub record ImportAnswer (i : ImportWords) (was is : Option Folder) (text : List 
   pub text_is : text ≡ import_text library.shape
 
 -- the corpus is read and isn't published, by this fault
-pub record PublishCause (i : ImportWords) (held : Option Folder) (fault : PublishFault) : Type 0 where
+pub record PublishCause (i : ImportWords) (held : Option Folder)
+    (fault : PublishFault) : Type 0 where
   pub documents : List Document
   pub corpus : HasCorpus held i.corpus documents
   pub refused : IsRefused documents i.settings fault
@@ -50,7 +53,8 @@ ImportCause i was is (Publish fault) = PublishCause i was.held fault
 ImportCause i was is (File Write) = WriteCause i was is
 ImportCause i was is refusal = ReadCause i.corpus was is refusal
 
--- an import that can be answered: the file is told and a corpus, which is published with the settings
+-- an import that can be answered: the file is told and a corpus, which is published with the
+-- settings
 pub record CanBeImported (i : ImportWords) (held : Option Folder) : Type 0 where
   pub documents : List Document
   pub corpus : IsToldCorpus held i.corpus documents

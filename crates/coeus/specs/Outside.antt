@@ -22,6 +22,20 @@ pub record Outside : Type 0 where
   pub files : FilesState
   pub out : SinkState
 
+-- ---- the same by their parts
+
+abbrev pub files_state : Option Folder → ℕ → Option FileCall → FilesState
+files_state held faults last_failed =
+    record { held = held; faults = faults; last_failed = last_failed }
+
+abbrev pub sink_state : Option (List ℕ) → ℕ → SinkState
+sink_state bytes faults = record { bytes = bytes; faults = faults }
+
+abbrev pub outside : FilesState → SinkState → Outside
+outside files out = record { files = files; out = out }
+
+-- ---- what changed
+
 -- a sink took these bytes, whole
 abbrev pub Took : SinkState → SinkState → List ℕ → Type 0
 Took was is text = Appends was.bytes is.bytes text (Ok tt)

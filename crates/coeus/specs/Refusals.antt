@@ -68,7 +68,8 @@ corpus_text (TooMany line) = line_text line (codes "too many documents")
 corpus_text OutOfMemory = codes "memory"
 
 abbrev pub test_text : TestFault → List ℕ
-test_text (RowsOverDegree rows degree) = flat (codes "test: rows " ∷ decimal rows ∷ codes " over degree " ∷ decimal degree ∷ [])
+test_text (RowsOverDegree rows degree) =
+    flat (codes "test: rows " ∷ decimal rows ∷ codes " over degree " ∷ decimal degree ∷ [])
 test_text (Score bound) = with_number (codes "test: score bound ") bound []
 test_text (Records bound) = with_number (codes "test: records bound ") bound []
 test_text (Bins bound) = with_number (codes "test: bins bound ") bound []
@@ -81,7 +82,8 @@ setting_text Chunks = codes "setting chunks out of range"
 
 abbrev pub publishing_text : PublishFault → List ℕ
 publishing_text (publishing.Setting which) = setting_text which
-publishing_text (publishing.TooManyWeights entries) = with_number (codes "too many weights ") entries []
+publishing_text (publishing.TooManyWeights entries) =
+    with_number (codes "too many weights ") entries []
 publishing_text (publishing.TooBig bytes) = with_number (codes "bins of ") bytes (codes " bytes")
 publishing_text (publishing.Test fault) = test_text fault
 publishing_text publishing.OutOfMemory = codes "memory"

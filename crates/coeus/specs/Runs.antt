@@ -1,4 +1,4 @@
--- What a run of the program is: for each command what it prints, when it refuses, and what it leaves.
+-- What a run of the program is: what each command prints, when it refuses, and what it leaves.
 use Rattle.std.specs.Prelude.{◌≡◌, ◌≢◌, ◌⊎◌, ℕ, List, Option, Result, Ok, Err, IsOk}
 use Rattle.co_link.specs.Files.{Folder, file_at}
 use Rattle.co_link.specs.declared.files.FileKind.TheVariants.{Read, Write}
@@ -36,7 +36,8 @@ Cause SpokenWrong was is refusal = refusal ≡ refusals.Words
 
 -- the files that it changes: those of `import` are at most its library, any other command has none
 abbrev pub Keeps : Spoken → Option Folder → Option Folder → Type 0
-Keeps (SpokenImport i) was is = (name : List ℕ) → name ≢ i.library → file_at is name ≡ file_at was name
+Keeps (SpokenImport i) was is =
+    (name : List ℕ) → name ≢ i.library → file_at is name ≡ file_at was name
 Keeps command was is = is ≡ was
 
 -- the status that it ends with where no count of faults rises and memory is there
@@ -91,18 +92,21 @@ Ended command was is (Err refusal) = RefusedBy command was is refusal
 -- ---- a run, with the words of the command line, the error output and the status
 
 -- the program refused, and said so, unless the error output failed
-pub record Refuses (words : List (List ℕ)) (was is : Outside) (err_was err_is : SinkState) (status : ℕ) : Type 0 where
+pub record Refuses (words : List (List ℕ)) (was is : Outside) (err_was err_is : SinkState)
+    (status : ℕ) : Type 0 where
   pub refusal : Refusal
   pub status_is : status ≡ status_of refusal
   pub ended : RefusedBy (spoken words) was is refusal
   pub says : Says (text_of words refusal) err_was err_is
 
-pub record Ran (words : List (List ℕ)) (was is : Outside) (err_was err_is : SinkState) (status : ℕ) : Type 0 where
-  -- status 0 comes with the answer, and says nothing; any other comes by its cause, and says its line
+-- all that is stated of a run: status 0 comes with the answer, and says nothing; any other comes by
+-- its cause, and says its line; where no count of faults rose, the status is the one that is due,
+-- or want of memory; a file changes only where `import` writes it, and with status 0 or 9
+pub record Ran (words : List (List ℕ)) (was is : Outside) (err_was err_is : SinkState)
+    (status : ℕ) : Type 0 where
   pub answered : status ≡ 0 → Answered (spoken words) was is × (err_is ≡ err_was)
   pub refused : status ≢ 0 → Refuses words was is err_was err_is status
-  -- where no count of faults rose, the status is the one that is due, or want of memory
-  pub complete : HasNoFault was is → (due : ℕ) → Due (spoken words) was.files.held due → (status ≡ due) ⊎ (status ≡ 10)
-  -- a file changes only where `import` writes it, and with status 0 or 9
+  pub complete : HasNoFault was is → (due : ℕ) → Due (spoken words) was.files.held due
+      → (status ≡ due) ⊎ (status ≡ 10)
   pub keeps : Keeps (spoken words) was.files.held is.files.held
   pub unchanged : status ≢ 0 → status ≢ 9 → is.files.held ≡ was.files.held

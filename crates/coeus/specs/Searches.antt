@@ -26,7 +26,8 @@ pub record HasFile (held : Option Folder) (name bytes : List ℕ) : Type 0 where
   pub fits : length bytes ≤ MAX_CORPUS
 
 -- the file of a corpus, with the documents that it reads as
-pub record HasCorpus (held : Option Folder) (name : List ℕ) (documents : List Document) : Type 0 where
+pub record HasCorpus (held : Option Folder) (name : List ℕ)
+    (documents : List Document) : Type 0 where
   pub bytes : List ℕ
   pub file : HasFile held name bytes
   pub read : corpus_of bytes ≡ Ok documents
@@ -46,7 +47,8 @@ ReadCause name was is Memory = Unit {0}
 ReadCause name was is refusal = ⊥
 
 -- the file is told, and is a corpus
-pub record IsToldCorpus (held : Option Folder) (name : List ℕ) (documents : List Document) : Type 0 where
+pub record IsToldCorpus (held : Option Folder) (name : List ℕ)
+    (documents : List Document) : Type 0 where
   pub told : IsSome held
   pub corpus : HasCorpus held name documents
 
@@ -58,7 +60,13 @@ query_of words = distinct (terms (joined words))
 
 -- the settings that `plain` is checked by
 abbrev pub plain_settings : PlainWords → Settings
-plain_settings p = record { degree = DEFAULT_DEGREE; terms = p.terms; hits = p.hits; salt = DEFAULT_SALT; chunks = DEFAULT_CHUNKS }
+plain_settings p = record {
+  degree = DEFAULT_DEGREE;
+  terms = p.terms;
+  hits = p.hits;
+  salt = DEFAULT_SALT;
+  chunks = DEFAULT_CHUNKS;
+}
 
 -- the text of what is found in these documents, by good settings and at most sixteen keywords
 pub record HasText (p : PlainWords) (documents : List Document) (text : List ℕ) : Type 0 where
@@ -97,7 +105,8 @@ PlainCause p was is (Publish fault) = SearchCause p was.held (Publish fault)
 PlainCause p was is (Keywords number) = SearchCause p was.held (Keywords number)
 PlainCause p was is refusal = ReadCause p.corpus was is refusal
 
--- a plain search that can be answered: the file is told and a corpus, the settings are good, and the query has few terms
+-- a plain search that can be answered: the file is told and a corpus, the settings are good, and
+-- the query has few terms
 pub record CanBeSearched (p : PlainWords) (held : Option Folder) : Type 0 where
   pub documents : List Document
   pub corpus : IsToldCorpus held p.corpus documents

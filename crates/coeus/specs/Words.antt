@@ -35,7 +35,8 @@ begins_with_dash (b ∷ bs) = b == 45
 -- ---- options
 
 abbrev pub no_options : Options
-no_options = record { degree = None; terms = None; hits = None; salt = None; chunks = None; pick = None }
+no_options =
+    record { degree = None; terms = None; hits = None; salt = None; chunks = None; pick = None }
 
 -- the number of an option that is given once
 abbrev pub once : Option ℕ → List ℕ → Option ℕ
@@ -44,23 +45,32 @@ once before value = if is_some before then None else short_number value
 -- the options with one more, by its name and value
 unfoldable pub with_option : Options → List ℕ → List ℕ → Option Options
 with_option o name value =
-    if bytes_eq name (codes "--degree") then option_map (λ n. record o { degree = Some n }) (once o.degree value)
-    else if bytes_eq name (codes "--terms") then option_map (λ n. record o { terms = Some n }) (once o.terms value)
-    else if bytes_eq name (codes "--hits") then option_map (λ n. record o { hits = Some n }) (once o.hits value)
-    else if bytes_eq name (codes "--salt") then option_map (λ n. record o { salt = Some n }) (once o.salt value)
-    else if bytes_eq name (codes "--chunks") then option_map (λ n. record o { chunks = Some n }) (once o.chunks value)
-    else if bytes_eq name (codes "--pick") then option_map (λ n. record o { pick = Some n }) (once o.pick value)
+    if bytes_eq name (codes "--degree")
+    then option_map (λ n. record o { degree = Some n }) (once o.degree value)
+    else if bytes_eq name (codes "--terms")
+    then option_map (λ n. record o { terms = Some n }) (once o.terms value)
+    else if bytes_eq name (codes "--hits")
+    then option_map (λ n. record o { hits = Some n }) (once o.hits value)
+    else if bytes_eq name (codes "--salt")
+    then option_map (λ n. record o { salt = Some n }) (once o.salt value)
+    else if bytes_eq name (codes "--chunks")
+    then option_map (λ n. record o { chunks = Some n }) (once o.chunks value)
+    else if bytes_eq name (codes "--pick")
+    then option_map (λ n. record o { pick = Some n }) (once o.pick value)
     else None
 
--- what stands behind the positional words: options in any order, then `--` and a query, if there is one
+-- what stands behind the positional words: options in any order, then `--` and a query, if any
 pub record Rest : Type 0 where
   pub options : Options
   pub query : Option (List (List ℕ))
 
 abbrev pub rest_of : Options → List (List ℕ) → Option Rest
 rest_of o [] = Some (record { options = o; query = None })
-rest_of o (w ∷ []) = if bytes_eq w (codes "--") then Some (record { options = o; query = Some [] }) else None
-rest_of o (w ∷ v ∷ ws) = if bytes_eq w (codes "--") then Some (record { options = o; query = Some (v ∷ ws) }) else option_and_then (λ more. rest_of more ws) (with_option o w v)
+rest_of o (w ∷ []) =
+    if bytes_eq w (codes "--") then Some (record { options = o; query = Some [] }) else None
+rest_of o (w ∷ v ∷ ws) =
+    if bytes_eq w (codes "--") then Some (record { options = o; query = Some (v ∷ ws) })
+    else option_and_then (λ more. rest_of more ws) (with_option o w v)
 
 -- ---- commands
 
@@ -78,8 +88,8 @@ pub record ImportWords : Type 0 where
   pub library : List ℕ
   pub settings : Settings
 
--- what words ask for: a command, where a shape is the published numbers that its four words stand for, or nothing that
--- is in the grammar
+-- what words ask for: a command, where a shape is the published numbers that its four words stand
+-- for, or nothing that is in the grammar
 pub data Spoken : Type 0 where
   SpokenPlain : PlainWords → Spoken
   SpokenImport : ImportWords → Spoken
@@ -94,7 +104,8 @@ or_wrong speak (Some words) = speak words
 -- the pick, 1 to 64, or else 1, where no option was given that is for publishing alone
 abbrev pub pick_of : Options → Option ℕ
 pick_of o =
-    if is_none o.degree && is_none o.salt && is_none o.chunks && is_within 1 MAX_PICK (unwrap_or o.pick DEFAULT_PICK)
+    if is_none o.degree && is_none o.salt && is_none o.chunks
+        && is_within 1 MAX_PICK (unwrap_or o.pick DEFAULT_PICK)
     then Some (unwrap_or o.pick DEFAULT_PICK) else None
 
 -- `plain` has a query, and the options `--terms`, `--hits` and `--pick`
@@ -111,7 +122,8 @@ plain_of corpus rest = option_and_then (λ query. option_map (λ pick. record {
 abbrev pub plain_words : List (List ℕ) → Option PlainWords
 plain_words [] = None
 plain_words (corpus ∷ rest) =
-    if begins_with_dash corpus then None else option_and_then (plain_of corpus) (rest_of no_options rest)
+    if begins_with_dash corpus then None
+    else option_and_then (plain_of corpus) (rest_of no_options rest)
 
 -- the settings, where no pick and no query was given
 abbrev pub settings_of : Rest → Option Settings
@@ -128,7 +140,8 @@ settings_of rest =
 
 abbrev pub import_of : List ℕ → List ℕ → Rest → Option ImportWords
 import_of corpus library rest =
-    option_map (λ settings. record { corpus = corpus; library = library; settings = settings }) (settings_of rest)
+    option_map (λ settings. record { corpus = corpus; library = library; settings = settings })
+        (settings_of rest)
 
 -- behind `import`: CORPUS, LIBRARY and options
 abbrev pub import_words : List (List ℕ) → Option ImportWords

@@ -3,8 +3,8 @@
 //! `run` does all that the program does, over files and sinks that are handed in; its contract says
 //! what each status means. `main` makes the real devices and calls it.
 //!
-//! Not here: what a corpus is (co_corpus), what is found (co_tfidf), how it is printed (co_text), and
-//! what a shape's bounds are (co_noise).
+//! Not here: what a corpus is (co_corpus), what is found (co_tfidf), how it is printed (co_text),
+//! how a corpus is published (co_library), and what a shape's bounds are (co_noise).
 #![tactic(auto)]
 
 mod limits;

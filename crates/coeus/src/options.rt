@@ -1,9 +1,10 @@
 // Numbers and options among the words of the command line.
-ghost use Rattle.std.specs.Prelude.{◌≡◌, ◌≤◌, ◌<◌, ◌^◌, string_bytes, map, Some, option_map, true, length};
+ghost use Rattle.std.specs.Prelude.{◌≡◌, ◌≤◌, string_bytes, map, option_map, true, length};
 ghost use Rattle.std.specs.Char.{is_ascii_digit};
 ghost use Rattle.std.specs.List.{list_all};
 ghost use Rattle.std.specs.Str.Parse.{digits_value};
-ghost use Rattle.coeus.specs.Words.{are_digits, digits_number, short_number, once, with_option, no_options, rest_of, pick_of};
+ghost use Rattle.coeus.specs.Words.{are_digits, digits_number, short_number, once, with_option};
+ghost use Rattle.coeus.specs.Words.{no_options, rest_of, pick_of};
 ghost use Rattle.coeus.specs.Commands.{rest_shown};
 ghost use Rattle.coeus.specs.Next.{next_shown, words_left};
 

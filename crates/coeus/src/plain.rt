@@ -6,7 +6,7 @@ ghost use Rattle.co_text.specs.declared.terms.TheConstants.{MAX_KEYWORDS};
 ghost use Rattle.co_tfidf.specs.Found.{found, IsIndex};
 ghost use Rattle.coeus.specs.Words.{SpokenPlain};
 ghost use Rattle.coeus.specs.Commands.{plain_shown};
-ghost use Rattle.coeus.specs.Outside.{Outside, FilesState};
+ghost use Rattle.coeus.specs.Outside.{files_state, sink_state, outside};
 ghost use Rattle.coeus.specs.Searches.{HasCorpus, ReadCause, HasText, TextCause, plain_settings};
 ghost use Rattle.coeus.specs.Runs.{Ended};
 
@@ -46,7 +46,8 @@ fn find(
     requires same { most ≡ terms }
     requires index { IsIndex most corpus.now index.now }
     requires few { length (distinct query.now) ≤ MAX_KEYWORDS }
-    ensures { IfOk result (λ f. f ≡ found terms corpus.now command.now.hits query.now command.now.pick) }
+    ensures { IfOk result (λ f.
+        f ≡ found terms corpus.now command.now.hits query.now command.now.pick) }
 {
     plain_search(alloc, corpus, index, query, command.hits, command.pick)
 }
@@ -59,7 +60,8 @@ fn search(
     command: &PlainCommand<'_>,
 ) -> Result<Bytes, AllocError>
     requires { length (distinct query.now) ≤ MAX_KEYWORDS }
-    ensures { IfOk result (λ text. text ≡ printed (found command.now.terms corpus.now command.now.hits query.now command.now.pick)) }
+    ensures { let c = command.now in IfOk result (λ text.
+        text ≡ printed (found c.terms corpus.now c.hits query.now c.pick)) }
 {
     let index = build_index(alloc, corpus, command.terms)?;
     let found = find(alloc, corpus, &index, command.terms, query, command)?;
@@ -70,8 +72,8 @@ fn search(
 pub fn read_documents<F: Files>(alloc: Global, name: &str, files: &mut F) -> Result<Corpus, Refusal>
     ensures ok { IfOk result (HasCorpus (F.held files.old) name.now) }
     ensures cause {
-        let was : FilesState = record { held = F.held files.old; faults = F.faults files.old; last_failed = F.last_failed files.old } in
-        let is : FilesState = record { held = F.held files.new; faults = F.faults files.new; last_failed = F.last_failed files.new } in
+        let was = files_state (F.held files.old) (F.faults files.old) (F.last_failed files.old) in
+        let is = files_state (F.held files.new) (F.faults files.new) (F.last_failed files.new) in
         IfErr result (ReadCause name.now was is) }
     ensures files { F.held files.new ≡ F.held files.old }
     ensures later { F.faults files.old ≤ F.faults files.new }
@@ -125,14 +127,12 @@ pub fn plain<F: Files, O: Sink>(
     out: &mut O,
 ) -> Result<(), Refusal>
     ensures {
-        let was : Outside = record {
-            files = record { held = F.held files.old; faults = F.faults files.old; last_failed = F.last_failed files.old };
-            out = record { bytes = O.put_so_far out.old; faults = O.faults out.old };
-        } in
-        let is : Outside = record {
-            files = record { held = F.held files.new; faults = F.faults files.new; last_failed = F.last_failed files.new };
-            out = record { bytes = O.put_so_far out.new; faults = O.faults out.new };
-        } in
+        let was = outside
+            (files_state (F.held files.old) (F.faults files.old) (F.last_failed files.old))
+            (sink_state (O.put_so_far out.old) (O.faults out.old)) in
+        let is = outside
+            (files_state (F.held files.new) (F.faults files.new) (F.last_failed files.new))
+            (sink_state (O.put_so_far out.new) (O.faults out.new)) in
         Ended (SpokenPlain (plain_shown command.now)) was is result }
 {
     let corpus = read_documents(alloc, command.corpus, files)?;

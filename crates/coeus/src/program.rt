@@ -1,7 +1,7 @@
 // The top call: all that the program does.
 ghost use Rattle.std.specs.Prelude.{map, string_bytes};
 ghost use Rattle.coeus.specs.Commands.{command_shown};
-ghost use Rattle.coeus.specs.Outside.{Outside, SinkState};
+ghost use Rattle.coeus.specs.Outside.{files_state, sink_state, outside};
 ghost use Rattle.coeus.specs.Runs.{Ended, Ran};
 
 use crate::plain::plain;
@@ -21,14 +21,12 @@ fn execute<F: Files, O: Sink>(
     out: &mut O,
 ) -> Result<(), Refusal>
     ensures {
-        let was : Outside = record {
-            files = record { held = F.held files.old; faults = F.faults files.old; last_failed = F.last_failed files.old };
-            out = record { bytes = O.put_so_far out.old; faults = O.faults out.old };
-        } in
-        let is : Outside = record {
-            files = record { held = F.held files.new; faults = F.faults files.new; last_failed = F.last_failed files.new };
-            out = record { bytes = O.put_so_far out.new; faults = O.faults out.new };
-        } in
+        let was = outside
+            (files_state (F.held files.old) (F.faults files.old) (F.last_failed files.old))
+            (sink_state (O.put_so_far out.old) (O.faults out.old)) in
+        let is = outside
+            (files_state (F.held files.new) (F.faults files.new) (F.last_failed files.new))
+            (sink_state (O.put_so_far out.new) (O.faults out.new)) in
         Ended (command_shown command.now) was is result }
 {
     match command {
@@ -39,7 +37,8 @@ fn execute<F: Files, O: Sink>(
     }
 }
 
-/// Does all that the program does: reads the words, does what they say, and answers the status. It starts no thread.
+/// Does all that the program does: reads the words, does what they say, and answers the status. It
+/// starts no thread.
 pub fn run<T: Threads + Sync, F: Files, O: Sink, E: Sink>(
     _rt: &T,
     alloc: Global,
@@ -49,16 +48,14 @@ pub fn run<T: Threads + Sync, F: Files, O: Sink, E: Sink>(
     err: &mut E,
 ) -> u8
     ensures {
-        let was : Outside = record {
-            files = record { held = F.held files.old; faults = F.faults files.old; last_failed = F.last_failed files.old };
-            out = record { bytes = O.put_so_far out.old; faults = O.faults out.old };
-        } in
-        let is : Outside = record {
-            files = record { held = F.held files.new; faults = F.faults files.new; last_failed = F.last_failed files.new };
-            out = record { bytes = O.put_so_far out.new; faults = O.faults out.new };
-        } in
-        let err_was : SinkState = record { bytes = E.put_so_far err.old; faults = E.faults err.old } in
-        let err_is : SinkState = record { bytes = E.put_so_far err.new; faults = E.faults err.new } in
+        let was = outside
+            (files_state (F.held files.old) (F.faults files.old) (F.last_failed files.old))
+            (sink_state (O.put_so_far out.old) (O.faults out.old)) in
+        let is = outside
+            (files_state (F.held files.new) (F.faults files.new) (F.last_failed files.new))
+            (sink_state (O.put_so_far out.new) (O.faults out.new)) in
+        let err_was = sink_state (E.put_so_far err.old) (E.faults err.old) in
+        let err_is = sink_state (E.put_so_far err.new) (E.faults err.new) in
         Ran (map string_bytes words.now) was is err_was err_is result }
 {
     let command = read_command(words);

@@ -2,7 +2,7 @@
 ghost use Rattle.std.specs.Prelude.{◌≡◌, IfOk, string_bytes};
 ghost use Rattle.coeus.specs.Words.{SpokenImport};
 ghost use Rattle.coeus.specs.Commands.{import_shown};
-ghost use Rattle.coeus.specs.Outside.{Outside};
+ghost use Rattle.coeus.specs.Outside.{files_state, sink_state, outside};
 ghost use Rattle.coeus.specs.Imports.{import_text};
 ghost use Rattle.coeus.specs.Runs.{Ended};
 
@@ -28,8 +28,8 @@ fn numbers_line(alloc: Global, shape: &Shape) -> Result<String, AllocError>
     )
 }
 
-/// Publishes a corpus, writes the library's file, and puts the line of its numbers on the output. The line is made
-/// before the file is written.
+/// Publishes a corpus, writes the library's file, and puts the line of its numbers on the output.
+/// The line is made before the file is written.
 pub fn import<F: Files, O: Sink>(
     alloc: Global,
     command: &ImportCommand<'_>,
@@ -37,14 +37,12 @@ pub fn import<F: Files, O: Sink>(
     out: &mut O,
 ) -> Result<(), Refusal>
     ensures {
-        let was : Outside = record {
-            files = record { held = F.held files.old; faults = F.faults files.old; last_failed = F.last_failed files.old };
-            out = record { bytes = O.put_so_far out.old; faults = O.faults out.old };
-        } in
-        let is : Outside = record {
-            files = record { held = F.held files.new; faults = F.faults files.new; last_failed = F.last_failed files.new };
-            out = record { bytes = O.put_so_far out.new; faults = O.faults out.new };
-        } in
+        let was = outside
+            (files_state (F.held files.old) (F.faults files.old) (F.last_failed files.old))
+            (sink_state (O.put_so_far out.old) (O.faults out.old)) in
+        let is = outside
+            (files_state (F.held files.new) (F.faults files.new) (F.last_failed files.new))
+            (sink_state (O.put_so_far out.new) (O.faults out.new)) in
         Ended (SpokenImport (import_shown command.now)) was is result }
 {
     let corpus = read_documents(alloc, command.corpus, files)?;

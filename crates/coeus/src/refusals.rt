@@ -2,8 +2,10 @@
 ghost use Rattle.std.specs.Prelude.{◌≡◌, ◌≤◌, Ok, map, string_bytes};
 ghost use Rattle.co_link.specs.Causes.{Rose};
 ghost use Rattle.co_link.specs.Held.{Appends};
-ghost use Rattle.coeus.specs.Refusals.{status_of, status_of_corpus, status_of_publishing, with_number, line_text, corpus_text, test_text, setting_text, publishing_text, text_of, name_of, flat, Says};
-ghost use Rattle.coeus.specs.Outside.{SinkState};
+ghost use Rattle.coeus.specs.Refusals.{status_of, status_of_corpus, status_of_publishing, name_of};
+ghost use Rattle.coeus.specs.Refusals.{with_number, line_text, corpus_text, test_text};
+ghost use Rattle.coeus.specs.Refusals.{setting_text, publishing_text, text_of, flat, Says};
+ghost use Rattle.coeus.specs.Outside.{sink_state};
 
 use co_corpus::CorpusFault;
 use co_library::{PublishFault, SettingName};
@@ -11,7 +13,8 @@ use co_link::{FileKind, Sink};
 use co_noise::TestFault;
 use itoa::Buffer;
 
-/// Why the program refuses. A fault of the corpus or of publishing that is want of memory reads as `Memory`.
+/// Why the program refuses. A fault of the corpus or of publishing that is want of memory reads as
+/// `Memory`.
 #[derive(Clone, Copy)]
 pub enum Refusal {
     /// The words are outside the grammar.
@@ -74,7 +77,10 @@ impl Refusal {
 // Puts parts on the error output, up to the first that fails.
 fn put_parts<E: Sink>(parts: &[&str], err: &mut E)
     ensures later { E.faults err.old ≤ E.faults err.new }
-    ensures says { ¬ (Rose (E.faults err.old) (E.faults err.new)) → Appends (E.put_so_far err.old) (E.put_so_far err.new) (flat (map (λ part. part.now) parts.now)) (Ok tt) }
+    ensures says {
+        ¬ (Rose (E.faults err.old) (E.faults err.new)) →
+        Appends (E.put_so_far err.old) (E.put_so_far err.new)
+            (flat (map (λ part. part.now) parts.now)) (Ok tt) }
 {
     for part in parts {
         if err.put(part.as_bytes()).is_err() {
@@ -86,8 +92,8 @@ fn put_parts<E: Sink>(parts: &[&str], err: &mut E)
 // Says a text as a line on the error output. Its failure is let go.
 fn say<E: Sink>(parts: &[&str], err: &mut E)
     ensures {
-        let was : SinkState = record { bytes = E.put_so_far err.old; faults = E.faults err.old } in
-        let is : SinkState = record { bytes = E.put_so_far err.new; faults = E.faults err.new } in
+        let was = sink_state (E.put_so_far err.old) (E.faults err.old) in
+        let is = sink_state (E.put_so_far err.new) (E.faults err.new) in
         Says (flat (map (λ part. part.now) parts.now)) was is }
 {
     put_parts(&["coeus: "], err);
@@ -98,8 +104,8 @@ fn say<E: Sink>(parts: &[&str], err: &mut E)
 // Says a text with a number in it.
 fn say_number<E: Sink>(before: &str, number: u128, after: &str, err: &mut E)
     ensures {
-        let was : SinkState = record { bytes = E.put_so_far err.old; faults = E.faults err.old } in
-        let is : SinkState = record { bytes = E.put_so_far err.new; faults = E.faults err.new } in
+        let was = sink_state (E.put_so_far err.old) (E.faults err.old) in
+        let is = sink_state (E.put_so_far err.new) (E.faults err.new) in
         Says (with_number before.now number after.now) was is }
 {
     let mut digits = Buffer::new();
@@ -109,8 +115,8 @@ fn say_number<E: Sink>(before: &str, number: u128, after: &str, err: &mut E)
 // Says at which line a file isn't a corpus.
 fn say_line<E: Sink>(line: u64, what: &str, err: &mut E)
     ensures {
-        let was : SinkState = record { bytes = E.put_so_far err.old; faults = E.faults err.old } in
-        let is : SinkState = record { bytes = E.put_so_far err.new; faults = E.faults err.new } in
+        let was = sink_state (E.put_so_far err.old) (E.faults err.old) in
+        let is = sink_state (E.put_so_far err.new) (E.faults err.new) in
         Says (line_text line what.now) was is }
 {
     let mut digits = Buffer::new();
@@ -120,8 +126,8 @@ fn say_line<E: Sink>(line: u64, what: &str, err: &mut E)
 // Says why a file isn't a corpus.
 fn say_corpus<E: Sink>(fault: CorpusFault, err: &mut E)
     ensures {
-        let was : SinkState = record { bytes = E.put_so_far err.old; faults = E.faults err.old } in
-        let is : SinkState = record { bytes = E.put_so_far err.new; faults = E.faults err.new } in
+        let was = sink_state (E.put_so_far err.old) (E.faults err.old) in
+        let is = sink_state (E.put_so_far err.new) (E.faults err.new) in
         Says (corpus_text fault) was is }
 {
     match fault {
@@ -139,8 +145,8 @@ fn say_corpus<E: Sink>(fault: CorpusFault, err: &mut E)
 // Says by which comparison a shape fails the test.
 fn say_test<E: Sink>(fault: TestFault, err: &mut E)
     ensures {
-        let was : SinkState = record { bytes = E.put_so_far err.old; faults = E.faults err.old } in
-        let is : SinkState = record { bytes = E.put_so_far err.new; faults = E.faults err.new } in
+        let was = sink_state (E.put_so_far err.old) (E.faults err.old) in
+        let is = sink_state (E.put_so_far err.new) (E.faults err.new) in
         Says (test_text fault) was is }
 {
     match fault {
@@ -172,8 +178,8 @@ fn setting_text(which: SettingName) -> &'static str
 // Says why a corpus isn't published.
 fn say_publishing<E: Sink>(fault: PublishFault, err: &mut E)
     ensures {
-        let was : SinkState = record { bytes = E.put_so_far err.old; faults = E.faults err.old } in
-        let is : SinkState = record { bytes = E.put_so_far err.new; faults = E.faults err.new } in
+        let was = sink_state (E.put_so_far err.old) (E.faults err.old) in
+        let is = sink_state (E.put_so_far err.new) (E.faults err.new) in
         Says (publishing_text fault) was is }
 {
     match fault {
@@ -207,8 +213,8 @@ fn name_of(kind: FileKind, words: &[String]) -> &str
 pub fn tell<E: Sink>(words: &[String], refusal: Refusal, err: &mut E) -> u8
     ensures status { result ≡ status_of refusal }
     ensures says {
-        let was : SinkState = record { bytes = E.put_so_far err.old; faults = E.faults err.old } in
-        let is : SinkState = record { bytes = E.put_so_far err.new; faults = E.faults err.new } in
+        let was = sink_state (E.put_so_far err.old) (E.faults err.old) in
+        let is = sink_state (E.put_so_far err.new) (E.faults err.new) in
         Says (text_of (map string_bytes words.now) refusal) was is }
 {
     match refusal {

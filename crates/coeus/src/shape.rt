@@ -2,7 +2,7 @@
 ghost use Rattle.std.specs.Prelude.{◌≡◌, ◌++◌, [], ◌∷◌, IfOk, OnOk, codes};
 ghost use Rattle.co_noise.specs.Bounds.{test_of};
 ghost use Rattle.coeus.specs.Words.{SpokenShape};
-ghost use Rattle.coeus.specs.Outside.{Outside, FilesState};
+ghost use Rattle.coeus.specs.Outside.{FilesState, sink_state, outside};
 ghost use Rattle.coeus.specs.ShapeLines.{number_line, test_word, shape_text};
 ghost use Rattle.coeus.specs.Runs.{Ended};
 
@@ -72,8 +72,8 @@ pub fn shape_text(alloc: Global, shape: &Shape) -> Result<Bytes, AllocError>
 /// Puts the lines of a shape. It has nothing to do with files.
 pub fn show<O: Sink>(alloc: Global, shape: &Shape, out: &mut O) -> Result<(), Refusal>
     ensures { (files : FilesState) →
-        let was : Outside = record { files = files; out = record { bytes = O.put_so_far out.old; faults = O.faults out.old } } in
-        let is : Outside = record { files = files; out = record { bytes = O.put_so_far out.new; faults = O.faults out.new } } in
+        let was = outside files (sink_state (O.put_so_far out.old) (O.faults out.old)) in
+        let is = outside files (sink_state (O.put_so_far out.new) (O.faults out.new)) in
         Ended (SpokenShape shape.now) was is result }
 {
     let Ok(text) = shape_text(alloc, shape) else {

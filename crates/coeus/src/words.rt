@@ -1,6 +1,7 @@
-// The words of the command line: a command, its positional words, options in any order, and a query.
+// The words of the command line: a command, its positional words, options in any order, a query.
 ghost use Rattle.std.specs.Prelude.{◌≡◌, ◌++◌, IfOk, string_bytes, map, option_map};
-ghost use Rattle.coeus.specs.Words.{plain_words, import_words, settings_of, shape_words, spoken, joined};
+ghost use Rattle.coeus.specs.Words.{plain_words, import_words, settings_of, shape_words};
+ghost use Rattle.coeus.specs.Words.{spoken, joined};
 ghost use Rattle.coeus.specs.Commands.{command_shown, plain_shown, import_shown, rest_shown};
 
 use crate::limits::{
@@ -132,7 +133,8 @@ fn read_import(words: &[String]) -> Option<ImportCommand<'_>>
     })
 }
 
-// Reads DEGREE, TERMS, ROWS and BINS, each in its range. The other numbers of the shape are the least.
+// Reads DEGREE, TERMS, ROWS and BINS, each in its range. The other numbers of the shape are the
+// least.
 fn read_shape(words: &[String]) -> Option<Shape>
     ensures { result ≡ shape_words (map string_bytes words.now) }
 {
