@@ -1,5 +1,5 @@
 -- The entries of a library, and the length of its file.
-use Rattle.std.proofs.Common.{◌≡◌, ℕ, zero, suc, ◌+◌, ◌*◌, ◌≤◌, ◌<◌, ◌⊎◌, Bool, true, false, List, [], ◌∷◌, ◌++◌, length, length-append, get_or, Option, Some, None, All, refl, ap, inl, inr, arith}
+use Rattle.std.proofs.Common.{◌≡◌, ℕ, zero, suc, ◌+◌, ◌*◌, ◌≤◌, ◌<◌, ◌⊎◌, Bool, true, false, List, [], ◌∷◌, ◌++◌, length, length-append, get_or, Option, Some, None, All, refl, ap, subst, inl, inr, arith}
 use Rattle.std.specs.Prelude.{IsTrue, ◌&&◌, ◌||◌, ◌==◌, nat_lt}
 use Rattle.std.specs.List.{AllByRecursion, flat_map}
 use Rattle.std.specs.Int.{w32, to_be_bytes}
@@ -41,7 +41,9 @@ rises s before (e ∷ f ∷ es) each zero d below = elim (precedes (nat_lt e.0 f
   | inl less ↦ inl (ltb-true e.0 f.0 less)
   | inr same ↦ inr (eqb-true e.0 f.0 same.0, ltb-true e.1 f.1 same.1)
 ]
-rises s before (e ∷ f ∷ es) each (suc i) d below = rises s (Some e) (f ∷ es) each.1 i d (omega arith)
+rises s before (e ∷ f ∷ es) each (suc i) d below =
+    let next : suc (i + 1) ≡ suc i + 1 = omega arith in
+    subst (λ (k : ℕ). Precedes (get_or (e ∷ f ∷ es) (suc i) d) (get_or (e ∷ f ∷ es) k d)) next (rises s (Some e) (f ∷ es) each.1 i d (omega arith))
 
 pub entries_rise : (l : Parts) → IsLibrary l → (i : ℕ) (d : Entry) → i + 1 < length l.weights → Precedes (get_or l.weights i d) (get_or l.weights (i + 1) d)
 entries_rise l h i d below = rises l.shape None l.weights h.each i d below
