@@ -1,7 +1,7 @@
 use Rattle.std.proofs.Common.{ℕ, ◌≡◌, length, refl, sym, subst, ◌∙◌}
 use Rattle.co_math.specs.Parameters.{plain_modulus}
 use Rattle.co_math.specs.Coefficients.{coefficients, IsDegree}
-use Rattle.co_math.proofs.Places.{degree_positive}
+use Rattle.co_math.proofs.Degrees.{degree_positive}
 use Rattle.co_ring.specs.declared.moduli.Modulus.{Modulus}
 use Rattle.co_ring.specs.Moduli.{value_of}
 use Rattle.co_ring.specs.Spectra.{AreValues}
