@@ -7,7 +7,7 @@ ghost use Rattle.co_ring.specs.Product_sums.{AreReduced, IsNoSum, IsSumWith, mos
 use crate::degrees::Degree;
 use crate::moduli::Modulus;
 use crate::spectra::Spectrum;
-use co_transform::sums::{gather, reduce_sums, reducer_of};
+use co_transform::sums::{clear, gather, reduce_sums, reducer_of};
 use std::alloc::{AllocError, Global};
 use std::marker::Model;
 
@@ -47,6 +47,14 @@ impl ProductSum {
             count: 0,
             leaves: vec![in alloc; 0; n]?,
         })
+    }
+
+    /// Makes it the sum of no products again.
+    pub fn clear(&mut self)
+        ensures { IsNoSum self.old.modulus (length self.old.values) self.new }
+    {
+        clear(&mut self.leaves);
+        self.count = 0;
     }
 
     /// How many products there are. The second clause says what holds of each sum.

@@ -10,8 +10,8 @@ use Rattle.co_math.proofs.Reduced.{reduced_as}
 use Rattle.co_math.proofs.Spreads.{spread-low, spread-IsWrapped}
 use Rattle.co_math.specs.Polynomials.{IsWrapped}
 use Rattle.co_math.proofs.Agreements.{Agree, residues_agree}
-use Rattle.co_math.proofs.Done.{AreFilled}
 use Rattle.co_rns.specs.Residue_pairs.{centred_coefficients}
+use Rattle.co_rns.proofs.Parting.{AreNumbers}
 use Rattle.co_math.specs.Parameters.{plain_modulus}
 
 half : ℕ → ℤ
@@ -36,11 +36,12 @@ pub centred_under : (m v : ℕ) → v < plain_modulus → 32768 < v → (plain_m
 centred_under m v b l u =
     reduced_as m (v + (m - plain_modulus)) (pos v -ℤ pos plain_modulus) (omega arith) (record { times = pos 1; same = omega (arith, linear) }) ∙ sym (ap (residue m) (centred_half v b ∙ half-high v l))
 
-pub centred_filled : (m n i : ℕ) (xs ys : List ℕ) → AreFilled n i (λ k. residue m (centred plain_modulus (pos (get_or xs k 0)))) ys → i ≡ n → length xs ≡ n → AreResidues m n (centred_coefficients xs) ys
+pub centred_numbers : (m r n k : ℕ) (xs ys : List ℕ) → r ≡ m → AreNumbers (λ j. residue r (centred plain_modulus (pos (get_or xs j 0)))) k ys → k ≡ n → length xs ≡ n → AreResidues m n (centred_coefficients xs) ys
 unfolding centred_coefficients
-centred_filled m n i xs ys h e l = record {
-  len = h.len;
-  each = λ k u. h.done k (omega arith) ∙ ap (residue m) (sym (spread-low (length xs) (λ j. centred plain_modulus (pos (get_or xs j 0))) k (omega (arith, l))));
+centred_numbers m r n k xs ys w h e l = record {
+  len = h.len ∙ e;
+  each = λ j u. h.each j (omega (arith, u, e))
+      ∙ (λ i. residue (w i) (sym (spread-low (length xs) (λ a. centred plain_modulus (pos (get_or xs a 0))) j (omega (arith, u, l))) i));
 }
 
 pub centred_IsWrapped : (xs : List ℕ) → 0 < length xs → IsWrapped (length xs) (centred_coefficients xs)

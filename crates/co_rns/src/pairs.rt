@@ -33,6 +33,7 @@ impl Model for Pair {
 }
 
 impl Pair {
+    /// The polynomial 0.
     pub fn zero(alloc: Global, degree: Degree) -> Result<Pair, AllocError>
         ensures { IfOk result (AreResidues q degree (λ _. pos 0)) }
     {
@@ -42,6 +43,7 @@ impl Pair {
         })
     }
 
+    /// The polynomial with these coefficients, the constant first: each is taken modulo q1 and q2.
     pub fn split(alloc: Global, degree: Degree, coeffs: &[u128]) -> Result<Pair, AllocError>
         requires one_degree { length coeffs.now ≡ degree }
         requires reduced { AreBelow q coeffs.now }
@@ -64,7 +66,7 @@ impl Pair {
         })
     }
 
-    /// The pair of these residues.
+    /// The one polynomial modulo q with these residues, by the Chinese remainder formula.
     pub fn from_parts(first: Poly, second: Poly) -> Pair
         requires first_modulus { first.modulus ≡ Modulus.First }
         requires second_modulus { second.modulus ≡ Modulus.Second }
@@ -78,6 +80,7 @@ impl Pair {
         Pair { first, second }
     }
 
+    /// The residues modulo q1.
     pub fn first(&self) -> &Poly
         ensures modulus { result.now.modulus ≡ Modulus.First }
         ensures residues { AreResiduesOf first_modulus self.now result.now.coeffs }
@@ -85,6 +88,7 @@ impl Pair {
         &self.first
     }
 
+    /// The residues modulo q2.
     pub fn second(&self) -> &Poly
         ensures modulus { result.now.modulus ≡ Modulus.Second }
         ensures residues { AreResiduesOf second_modulus self.now result.now.coeffs }
@@ -92,6 +96,7 @@ impl Pair {
         &self.second
     }
 
+    /// How many coefficients there are. The second clause says what holds of each pair.
     pub fn degree(&self) -> usize
         ensures value { result ≡ length self.now }
         ensures whole { IsWhole self.now }
@@ -99,7 +104,7 @@ impl Pair {
         self.first.degree()
     }
 
-    /// The coefficient at a place.
+    /// The coefficient of X^at.
     pub fn compose(&self, at: usize) -> u128
         requires { at < length self.now }
         ensures value { result ≡ slice_index self.now at }
@@ -108,7 +113,8 @@ impl Pair {
         parts::compose_at(&self.first, &self.second, at)
     }
 
-    /// The polynomial of the digits at a place.
+    /// The polynomial of the digits at a place, the lowest at 0. A digit is below the base, so it
+    /// is its own residue modulo q1 and q2.
     pub fn digit(&self, index: u32, into: &mut Pair)
         requires index { index < digit_count }
         requires one_degree { length into.old ≡ length self.now }
@@ -123,6 +129,7 @@ impl Pair {
         );
     }
 
+    /// Adds another polynomial.
     pub fn add_in(&mut self, other: &Pair)
         requires { length other.now ≡ length self.old }
         ensures { AreResidues q (length self.old) (plus (coefficients self.old) (coefficients other.now)) self.new }
@@ -131,6 +138,7 @@ impl Pair {
         self.second.add_in(&other.second);
     }
 
+    /// Subtracts another polynomial.
     pub fn sub_in(&mut self, other: &Pair)
         requires { length other.now ≡ length self.old }
         ensures { AreResidues q (length self.old) (minus (coefficients self.old) (coefficients other.now)) self.new }
@@ -139,7 +147,7 @@ impl Pair {
         self.second.sub_in(&other.second);
     }
 
-    /// Each coefficient times a number.
+    /// Times a number, which need not be below q.
     pub fn scale(&mut self, factor: u64)
         ensures { AreResidues q (length self.old) (scaled (pos factor) (coefficients self.old)) self.new }
     {
@@ -147,7 +155,7 @@ impl Pair {
         self.second.scale(factor);
     }
 
-    /// X becomes X^g.
+    /// X becomes X^g, as under the Galois element g.
     pub fn substitute(&self, g: u32, into: &mut Pair)
         requires odd { g % 2 ≡ 1 }
         requires within { g < 2 * length self.now }
@@ -158,7 +166,7 @@ impl Pair {
         self.second.substitute(g, &mut into.second);
     }
 
-    /// Times X^exponent.
+    /// Times X^exponent; X^n is -1.
     pub fn monomial_mul(&self, exponent: u32, into: &mut Pair)
         requires within { exponent < 2 * length self.now }
         requires one_degree { length into.old ≡ length self.now }
@@ -168,7 +176,7 @@ impl Pair {
         self.second.monomial_mul(exponent, &mut into.second);
     }
 
-    /// The product modulo X^n + 1.
+    /// The negacyclic product: X^n is -1. It makes the tables of its transforms anew.
     pub fn mul(&self, alloc: Global, other: &Pair) -> Result<Pair, AllocError>
         requires { length other.now ≡ length self.now }
         ensures { IfOk result (AreResidues q (length self.now) (product (length self.now) (coefficients self.now) (coefficients other.now))) }
@@ -179,7 +187,7 @@ impl Pair {
         })
     }
 
-    /// The product with a polynomial modulo t, taken with centred coefficients.
+    /// The negacyclic product with a polynomial modulo t, taken with its centred coefficients.
     pub fn mul_plain(&self, alloc: Global, plain: &Poly) -> Result<Pair, AllocError>
         requires plain_modulus { plain.now.modulus ≡ Modulus.Plain }
         requires one_degree { degree_of plain.now ≡ length self.now }

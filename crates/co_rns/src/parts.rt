@@ -47,12 +47,13 @@ pub fn reduce(
     ensures modulus { IfOk result (λ p. p.modulus ≡ modulus) }
     ensures coeffs { IfOk result (λ p. AreResiduesOf (value_of modulus) coeffs.now p.coeffs) }
 {
-    let mut poly = Poly::zero(alloc, modulus, degree)?;
-    let m = modulus.value() as u128;
+    let _n = degree.get();
+    let m = modulus.value();
+    let mut residues = Vec::with_capacity(alloc, coeffs.len())?;
     for k in 0..coeffs.len() {
-        poly.set(k, (coeffs[k] % m) as u64);
+        residues.push((coeffs[k] % m as u128) as u64)?;
     }
-    Ok(poly)
+    Ok(Poly::from_vec(modulus, residues))
 }
 
 /// A digit of a number.
@@ -148,10 +149,11 @@ pub fn centred(alloc: Global, plain: &Poly, modulus: Modulus) -> Result<Poly, Al
     requires { plain.now.modulus ≡ Modulus.Plain }
     ensures { IfOk result (IsPoly modulus (degree_of plain.now) (centred_coefficients plain.now.coeffs)) }
 {
-    let mut poly = Poly::zero(alloc, modulus, plain.shape())?;
+    let n = plain.degree();
     let m = modulus.value();
-    for k in 0..plain.degree() {
-        poly.set(k, centre(plain.coeff(k), m));
+    let mut residues = Vec::with_capacity(alloc, n)?;
+    for k in 0..n {
+        residues.push(centre(plain.coeff(k), m))?;
     }
-    Ok(poly)
+    Ok(Poly::from_vec(modulus, residues))
 }

@@ -37,6 +37,14 @@ impl PairSum {
         })
     }
 
+    /// Makes it the sum of no products again.
+    pub fn clear(&mut self)
+        ensures { IsNoPairSum (length self.old.first) self.new }
+    {
+        self.first.clear();
+        self.second.clear();
+    }
+
     /// Adds the product with each other of the values of a and of b.
     pub fn add_product(&mut self, a: &PairSpectrum, b: &PairSpectrum)
         requires a_degree { spectrum_degree a.now ≡ length self.old.first }

@@ -9,6 +9,8 @@ ghost use Rattle.co_math.specs.Coefficients.{coefficients, AreBelow, AreResidues
 ghost use Rattle.co_slots.specs.Slots.{slot, AreSlots};
 ghost use Rattle.co_slots.specs.Payloads.{IsPayload};
 
+use crate::slots::SlotTable;
+
 /// No two polynomials have the same slots.
 pub fn one_polynomial()
     ensures { (xs ys slots : List ℕ) → IsDegree (length xs) → AreBelow plain_modulus xs → AreBelow plain_modulus ys
@@ -44,3 +46,10 @@ pub fn payloads()
     ensures one_polynomial { (bytes coeffs others : List ℕ) → IsPayload bytes coeffs → IsPayload bytes others → coeffs ≡ others }
     ensures one_text { (bytes others coeffs : List ℕ) → IsPayload bytes coeffs → IsPayload others coeffs → bytes ≡ others }
 {}
+
+/// A table of slots may be handed to other threads, and shared.
+pub fn threads(table: &SlotTable) {
+    crosses(table);
+}
+
+fn crosses<T: Send + Sync>(_value: &T) {}

@@ -54,7 +54,10 @@ impl SlotTable {
         requires into_degree { degree_of into.old ≡ self.now }
         ensures modulus { into.new.modulus ≡ Modulus.Plain }
         ensures slots { AreSlots into.new.coeffs values.now }
+        ensures scratch_modulus { scratch.new.modulus ≡ Modulus.Plain }
+        ensures scratch_degree { length scratch.new.values ≡ self.now }
     {
+        let _ = scratch.degree();
         scatter(&self.places, values, scratch);
         inverse(&self.table, scratch, into);
     }
@@ -66,8 +69,11 @@ impl SlotTable {
         requires scratch_modulus { scratch.old.modulus ≡ Modulus.Plain }
         requires scratch_degree { length scratch.old.values ≡ self.now }
         requires into_degree { length into.old ≡ self.now }
-        ensures { AreSlots poly.now.coeffs into.new }
+        ensures slots { AreSlots poly.now.coeffs into.new }
+        ensures scratch_modulus { scratch.new.modulus ≡ Modulus.Plain }
+        ensures scratch_degree { length scratch.new.values ≡ self.now }
     {
+        let _ = scratch.degree();
         forward(&self.table, poly, scratch);
         gather(&self.places, scratch, into);
     }

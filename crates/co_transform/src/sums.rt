@@ -79,6 +79,16 @@ pub fn reduce_sums(sums: &[u128], by: Reducer, into: &mut [u64])
     }
 }
 
+/// Makes all sums 0.
+pub fn clear(sums: &mut [u128])
+    ensures len { length sums.new ≡ length sums.old }
+    ensures zeros { AreWithin 0 sums.new }
+{
+    for i in 0..sums.len() {
+        sums[i] = 0;
+    }
+}
+
 /// Adds the products of two lists, place by place, to sums that are not reduced.
 /// `count` says how many products each sum has so far; 2^25 have room.
 pub fn gather(sums: &mut [u128], a: &[u64], b: &[u64], count: u64, q: u64)

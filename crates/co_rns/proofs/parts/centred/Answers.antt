@@ -1,18 +1,30 @@
-use Rattle.std.proofs.Common.{ℕ, ◌<◌, length, arith, ◌∙◌, sym, ap, subst, refl, pos}
+use Rattle.std.proofs.Common.{ℕ, List, ◌+◌, ◌<◌, ◌∙◌, length, get_or, arith, refl, sym, ap, subst, pos}
+use Rattle.co_math.specs.Residues.{residue}
 use Rattle.co_math.specs.Meanings.{centred}
+use Rattle.co_math.specs.Parameters.{plain_modulus}
+use Rattle.co_math.specs.Coefficients.{IsDegree}
 use Rattle.co_math.proofs.Residues.{residue-lt}
 use Rattle.co_ring.specs.Moduli.{value_of}
-use Rattle.co_rns.proofs.Centring.{centred_filled}
+use Rattle.co_ring.proofs.Keeping.{value-positive}
+use Rattle.co_rns.proofs.Centring.{centred_numbers}
+use Rattle.co_rns.proofs.Parting.{AreNumbers, more_numbers, numbers_IsPolynomial}
 use Rattle.co_rns.proofs.parts.centred.Goals as goal
-use Rattle.co_math.specs.Parameters.{plain_modulus}
 
-pub set-requires-clause-reduced : goal.set-requires-clause-reduced
-set-requires-clause-reduced c =
-    subst (λ (m : ℕ). c.centre.result < m) (c.value-m.ensures.value ∙ ap value_of (sym c.loop-k.invariant.same_modulus))
-    (subst (λ (r : ℕ). r < c.value-m.result) (sym c.centre.ensures) (residue-lt c.value-m.result (centred plain_modulus (pos c.coeff.result)) (omega (arith, c.value-m.ensures.least))))
+pub loop-k-preserved : goal.loop-k-preserved
+loop-k-preserved c =
+    let f : ℕ → ℕ = λ j. residue c.value-m.result (centred plain_modulus (pos (get_or c.args.plain.now.coeffs j 0))) in
+    subst (λ (xs : List ℕ). AreNumbers f (c.loop-k.k + 1) xs) (sym c.in_ok-push.ensures.items)
+    (more_numbers f c.loop-k.k c.centre.result c.loop-k.residues.items c.loop-k.invariant (c.centre.ensures ∙ ap (λ v. residue c.value-m.result (centred plain_modulus (pos v))) c.coeff.ensures.value))
+
+pub from_vec-requires : goal.from_vec-requires
+from_vec-requires c =
+    let ps = c.args.plain.now.coeffs in
+    let v = value_of c.args.modulus in
+    numbers_IsPolynomial c.args.modulus (λ j. residue c.value-m.result (centred plain_modulus (pos (get_or ps j 0)))) c.loop-k.k (length ps) c.loop-k.residues.items c.degree-n.ensures.valid.degree (omega (arith, c.degree-n.ensures.value))
+    (λ j. subst (λ (m : ℕ). residue m (centred plain_modulus (pos (get_or ps j 0))) < v) (sym c.value-m.ensures.value) (residue-lt v (centred plain_modulus (pos (get_or ps j 0))) (value-positive c.args.modulus))) c.loop-k.invariant
 
 pub returns : goal.returns
 returns c = record {
-  one_modulus = c.loop-k.invariant.same_modulus;
-  coeffs = centred_filled (value_of c.args.modulus) (length c.args.plain.now.coeffs) c.loop-k.k c.args.plain.now.coeffs c.loop-k.poly.coeffs c.loop-k.invariant.residues (omega (arith, c.degree-k-end.ensures.value)) refl;
+  one_modulus = refl;
+  coeffs = centred_numbers (value_of c.args.modulus) c.value-m.result (length c.args.plain.now.coeffs) c.loop-k.k c.args.plain.now.coeffs c.loop-k.residues.items c.value-m.ensures.value c.loop-k.invariant (omega (arith, c.degree-n.ensures.value)) refl;
 }
