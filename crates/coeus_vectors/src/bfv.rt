@@ -5,36 +5,16 @@ ghost use Rattle.co_bfv.specs.Ciphertexts.{ciphertext_degree};
 
 use crate::cases::Case;
 use crate::lines::{put, put_ciphers, put_pair, put_poly, put_words};
-use crate::streams::{Given, Stand, skip};
+use crate::streams::{Stand, skip};
 use anyhow::{Error, bail};
 use co_bfv::{Cipher, Secret, decrypt, encrypt, sample_error, sample_secret, sample_uniform};
-use co_ring::{Degree, Modulus};
+use co_ring::{Degree, Modulus, Poly};
 use co_slots::decode_slots;
-use rand_core::{Rng, SeedableRng};
-use rand_xoshiro::SplitMix64;
+use rand_core::Rng;
 use std::alloc::Global;
 
-pub fn line(alloc: Global, call: &str, case: Case) -> Result<String, Error> {
-    match case.text("stream") {
-        "given" => {
-            let words = case.words(alloc, "words")?;
-            line_with(alloc, call, case, &mut Given::new(&words))
-        }
-        seed => {
-            let mut words = SplitMix64::seed_from_u64(seed.parse().unwrap_or(0));
-            line_with(alloc, call, case, &mut words)
-        }
-    }
-}
-
-/// The line of a call that takes its words from a stream. The secret is drawn first, and then some
-/// words are passed over.
-fn line_with<R: Stand>(
-    alloc: Global,
-    call: &str,
-    case: Case,
-    rng: &mut R,
-) -> Result<String, Error> {
+/// The secret is drawn first, and then some words are passed over.
+pub fn line<R: Stand>(alloc: Global, call: &str, case: Case, rng: &mut R) -> Result<String, Error> {
     let degree = case.degree()?;
     let mut line = String::new(alloc);
     let secret = sample_secret(alloc, degree, rng)?;
@@ -72,6 +52,15 @@ pub fn encrypted<R: Rng>(
     Ok(encrypt(alloc, secret, &message, rng)?)
 }
 
+fn opened(alloc: Global, secret: &Secret, cipher: &Cipher) -> Result<Poly, Error>
+    ensures { IfOk result (λ p. p.modulus ≡ Modulus.Plain) }
+{
+    if cipher.degree() != secret.degree() {
+        bail!("two degrees");
+    }
+    Ok(decrypt(alloc, secret, cipher)?)
+}
+
 /// What a ciphertext opens to.
 pub fn put_opened(
     alloc: Global,
@@ -79,10 +68,7 @@ pub fn put_opened(
     secret: &Secret,
     cipher: &Cipher,
 ) -> Result<(), Error> {
-    if cipher.degree() != secret.degree() {
-        bail!("two degrees");
-    }
-    put_poly(line, &decrypt(alloc, secret, cipher)?)?;
+    put_poly(line, &opened(alloc, secret, cipher)?)?;
     Ok(())
 }
 
@@ -93,10 +79,7 @@ pub fn put_opened_slots(
     secret: &Secret,
     cipher: &Cipher,
 ) -> Result<(), Error> {
-    if cipher.degree() != secret.degree() {
-        bail!("two degrees");
-    }
-    let message = decrypt(alloc, secret, cipher)?;
+    let message = opened(alloc, secret, cipher)?;
     put_words(line, &decode_slots(alloc, &message)?)?;
     Ok(())
 }

@@ -1,7 +1,7 @@
 //! Retrievals: the query, its expansion, the reply, and what it opens to.
 
 ghost use Rattle.std.specs.Prelude.{◌≡◌, ◌≤◌, length, All, IfOk, IsTrue};
-ghost use Rattle.co_noise.specs.Shapes.{log2_up};
+ghost use Rattle.co_math.specs.Logarithms.{log2_up};
 ghost use Rattle.co_bfv.specs.Ciphertexts.{ciphertext_degree};
 ghost use Rattle.co_switch.specs.Keys.{keys_degree};
 

@@ -1,5 +1,8 @@
 //! Polynomials over one modulus.
 
+ghost use Rattle.std.specs.Prelude.{◌≡◌, IfOk};
+ghost use Rattle.co_ring.specs.Polynomials.{degree_of};
+
 use crate::cases::Case;
 use crate::lines::{put, put_poly};
 use anyhow::{Error, bail};
@@ -14,7 +17,6 @@ pub fn line(alloc: Global, call: &str, case: Case) -> Result<String, Error> {
         "root" => put(&mut line, modulus.root(case.degree()?) as u128)?,
         "mul" => put_poly(&mut line, &product(alloc, modulus, case)?)?,
         "values" => put_values(alloc, &mut line, modulus, case)?,
-        "mul_add" => put_poly(&mut line, &product_by_values(alloc, modulus, case)?)?,
         "add" => put_poly(&mut line, &sum(alloc, modulus, case, false)?)?,
         "sub" => put_poly(&mut line, &sum(alloc, modulus, case, true)?)?,
         "scale" => put_poly(&mut line, &scaled(alloc, modulus, case)?)?,
@@ -25,12 +27,22 @@ pub fn line(alloc: Global, call: &str, case: Case) -> Result<String, Error> {
     Ok(line)
 }
 
-fn product(alloc: Global, modulus: Modulus, case: Case) -> Result<Poly, Error> {
+/// Two polynomials of one degree.
+fn both(alloc: Global, modulus: Modulus, case: Case) -> Result<(Poly, Poly), Error>
+    ensures first_modulus { IfOk result (λ p. p.0.modulus ≡ modulus) }
+    ensures second_modulus { IfOk result (λ p. p.1.modulus ≡ modulus) }
+    ensures one_degree { IfOk result (λ p. degree_of p.1 ≡ degree_of p.0) }
+{
     let a = case.poly(alloc, modulus, "a")?;
     let b = case.poly(alloc, modulus, "b")?;
     if a.degree() != b.degree() {
         bail!("two degrees");
     }
+    Ok((a, b))
+}
+
+fn product(alloc: Global, modulus: Modulus, case: Case) -> Result<Poly, Error> {
+    let (a, b) = both(alloc, modulus, case)?;
     Ok(a.mul(alloc, &b)?)
 }
 
@@ -64,11 +76,7 @@ fn shifted(alloc: Global, modulus: Modulus, case: Case) -> Result<Poly, Error> {
 
 /// The sum, or the difference.
 fn sum(alloc: Global, modulus: Modulus, case: Case, negated: bool) -> Result<Poly, Error> {
-    let mut a = case.poly(alloc, modulus, "a")?;
-    let b = case.poly(alloc, modulus, "b")?;
-    if a.degree() != b.degree() {
-        bail!("two degrees");
-    }
+    let (mut a, b) = both(alloc, modulus, case)?;
     if negated {
         a.sub_in(&b);
     } else {
@@ -90,23 +98,4 @@ fn put_values(alloc: Global, line: &mut String, modulus: Modulus, case: Case) ->
     inverse(&table, &values, &mut back);
     put_poly(line, &back)?;
     Ok(())
-}
-
-/// The product, back from the products of values.
-fn product_by_values(alloc: Global, modulus: Modulus, case: Case) -> Result<Poly, Error> {
-    let a = case.poly(alloc, modulus, "a")?;
-    let b = case.poly(alloc, modulus, "b")?;
-    if a.degree() != b.degree() {
-        bail!("two degrees");
-    }
-    let table = Table::new(alloc, modulus, a.shape())?;
-    let mut of_a = Spectrum::zero(alloc, modulus, a.shape())?;
-    let mut of_b = Spectrum::zero(alloc, modulus, a.shape())?;
-    let mut sum = Spectrum::zero(alloc, modulus, a.shape())?;
-    forward(&table, &a, &mut of_a);
-    forward(&table, &b, &mut of_b);
-    sum.mul_add(&of_a, &of_b);
-    let mut back = Poly::zero(alloc, modulus, a.shape())?;
-    inverse(&table, &sum, &mut back);
-    Ok(back)
 }

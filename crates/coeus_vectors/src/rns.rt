@@ -1,5 +1,7 @@
 //! Polynomials modulo q.
 
+ghost use Rattle.std.specs.Prelude.{◌≡◌, length, IfOk};
+
 use crate::cases::Case;
 use crate::lines::{put_pair, put_poly};
 use anyhow::{Error, bail};
@@ -54,22 +56,26 @@ fn put_digits(alloc: Global, line: &mut String, case: Case) -> Result<(), Error>
     Ok(())
 }
 
-fn product(alloc: Global, case: Case) -> Result<Pair, Error> {
+/// Two polynomials of one degree.
+fn both(alloc: Global, case: Case) -> Result<(Pair, Pair), Error>
+    ensures { IfOk result (λ p. length p.1 ≡ length p.0) }
+{
     let a = case.pair(alloc, "a")?;
     let b = case.pair(alloc, "b")?;
     if a.degree() != b.degree() {
         bail!("two degrees");
     }
+    Ok((a, b))
+}
+
+fn product(alloc: Global, case: Case) -> Result<Pair, Error> {
+    let (a, b) = both(alloc, case)?;
     Ok(a.mul(alloc, &b)?)
 }
 
 /// The product, back from the products of values.
 fn product_by_values(alloc: Global, case: Case) -> Result<Pair, Error> {
-    let a = case.pair(alloc, "a")?;
-    let b = case.pair(alloc, "b")?;
-    if a.degree() != b.degree() {
-        bail!("two degrees");
-    }
+    let (a, b) = both(alloc, case)?;
     let degree = Degree::of(a.degree());
     let tables = Tables::new(alloc, degree)?;
     let mut of_a = PairSpectrum::zero(alloc, degree)?;
@@ -116,11 +122,7 @@ fn shifted(alloc: Global, case: Case) -> Result<Pair, Error> {
 
 /// The sum, or the difference.
 fn sum(alloc: Global, case: Case, negated: bool) -> Result<Pair, Error> {
-    let mut a = case.pair(alloc, "a")?;
-    let b = case.pair(alloc, "b")?;
-    if a.degree() != b.degree() {
-        bail!("two degrees");
-    }
+    let (mut a, b) = both(alloc, case)?;
     if negated {
         a.sub_in(&b);
     } else {

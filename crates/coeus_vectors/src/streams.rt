@@ -4,9 +4,13 @@
 ghost use Rattle.rand_core.specs.Steps.{stream_of, steps_u64_low};
 ghost use Rattle.coeus_vectors.specs.Given.{next_of};
 
+use crate::cases::Case;
+use crate::{bfv, switch};
+use anyhow::Error;
 use rand_core::utils::NextWord;
 use rand_core::{Rng, SeedableRng, utils};
 use rand_xoshiro::SplitMix64;
+use std::alloc::Global;
 use std::marker::Model;
 
 /// A number that tells how far a generator has gone.
@@ -87,5 +91,32 @@ impl Stand for SplitMix64 {
 pub fn skip<R: Rng>(rng: &mut R, words: u32) {
     for _ in 0..words {
         rng.next_u64();
+    }
+}
+
+/// The line of a case whose words come from its stream.
+pub fn line(alloc: Global, layer: &str, call: &str, case: Case) -> Result<String, Error> {
+    match case.text("stream") {
+        "given" => {
+            let words = case.words(alloc, "words")?;
+            line_of(alloc, layer, call, case, &mut Given::new(&words))
+        }
+        seed => {
+            let mut words = SplitMix64::seed_from_u64(seed.parse().unwrap_or(0));
+            line_of(alloc, layer, call, case, &mut words)
+        }
+    }
+}
+
+fn line_of<R: Stand>(
+    alloc: Global,
+    layer: &str,
+    call: &str,
+    case: Case,
+    rng: &mut R,
+) -> Result<String, Error> {
+    match layer {
+        "bfv" => bfv::line(alloc, call, case, rng),
+        _ => switch::line(alloc, call, case, rng),
     }
 }

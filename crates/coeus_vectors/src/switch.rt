@@ -6,33 +6,17 @@ ghost use Rattle.co_switch.specs.Keys.{key_degree, keys_degree};
 use crate::bfv::{encrypted, put_opened};
 use crate::cases::Case;
 use crate::lines::{put, put_digest, put_pair, put_text, spell_pair};
-use crate::streams::{Given, Stand, skip};
+use crate::streams::{Stand, skip};
 use anyhow::{Error, bail};
 use co_bfv::{Secret, sample_secret};
 use co_math::parameters::DIGIT_COUNT;
 use co_noise::{Shape, Tested};
 use co_ring::Degree;
 use co_switch::{GaloisKey, KeySet, Steps, apply, make_key, make_keys};
-use rand_core::{Rng, SeedableRng};
-use rand_xoshiro::SplitMix64;
+use rand_core::Rng;
 use std::alloc::{AllocError, Global};
 
-pub fn line(alloc: Global, call: &str, case: Case) -> Result<String, Error> {
-    match case.text("stream") {
-        "given" => line_with(alloc, call, case, &mut Given::new(&[])),
-        seed => {
-            let mut words = SplitMix64::seed_from_u64(seed.parse().unwrap_or(0));
-            line_with(alloc, call, case, &mut words)
-        }
-    }
-}
-
-fn line_with<R: Stand>(
-    alloc: Global,
-    call: &str,
-    case: Case,
-    rng: &mut R,
-) -> Result<String, Error> {
+pub fn line<R: Stand>(alloc: Global, call: &str, case: Case, rng: &mut R) -> Result<String, Error> {
     let mut line = String::new(alloc);
     match call {
         "key" => put_key(alloc, &mut line, case, rng)?,
