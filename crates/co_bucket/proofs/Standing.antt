@@ -47,9 +47,10 @@ pub members : (salt buckets documents bucket d : ℕ) → Contains (listed salt 
 members salt buckets documents bucket d = (
   (λ has.
       let both = both_true (list_any (eqb d) (range_with_len 0 documents)) (may_stand salt buckets bucket d)
-        (sym (any_listed salt buckets documents bucket d) ∙ list_any-from_Contains nat_eq_equiv d (listed salt buckets documents bucket) has) in
-      (in_range documents d (Contains-from_any eqb-true d (range_with_len 0 documents) both.0),
-       Contains-from_any eqb-true bucket (candidates_of salt buckets d) (sym (flipped (candidates_of salt buckets d) bucket) ∙ both.1))),
+      (sym (any_listed salt buckets documents bucket d) ∙ list_any-from_Contains nat_eq_equiv d (listed salt buckets documents bucket) has) in (
+        in_range documents d (Contains-from_any eqb-true d (range_with_len 0 documents) both.0),
+        Contains-from_any eqb-true bucket (candidates_of salt buckets d) (sym (flipped (candidates_of salt buckets d) bucket) ∙ both.1),
+      )),
   (λ p.
       let there : list_any (eqb d) (range_with_len 0 documents) ≡ true = list_any-from_Contains nat_eq_equiv d (range_with_len 0 documents) (has_all documents d p.0) in
       let may : may_stand salt buckets bucket d ≡ true = flipped (candidates_of salt buckets d) bucket ∙ list_any-from_Contains nat_eq_equiv bucket (candidates_of salt buckets d) p.1 in
@@ -164,7 +165,7 @@ module _ (degree rows : ℕ) (spelled : ℕ → List ℕ) (list : List ℕ) (h :
       let last = mod-lt p some in
       part_of_row (row_size degree) (p / records_a_row degree) (256 * (p % records_a_row degree)) 256 (bucket_bytes degree rows spelled list) (omega (arith, whole.records, last))
       ∙ ap (λ (k : ℕ). take 256 (drop k (bucket_bytes degree rows spelled list)))
-        (ap (λ (k : ℕ). p / records_a_row degree * k + 256 * (p % records_a_row degree)) whole.records ∙ gathered p (records_a_row degree) (p / records_a_row degree) (p % records_a_row degree) (div-add-mod' p (records_a_row degree)))
+      (ap (λ (k : ℕ). p / records_a_row degree * k + 256 * (p % records_a_row degree)) whole.records ∙ gathered p (records_a_row degree) (p / records_a_row degree) (p % records_a_row degree) (div-add-mod' p (records_a_row degree)))
       ∙ piece spelled 256 list (replicate (rows * row_size degree - length (flat_map spelled list)) 0) p h.each below
     where
       gathered : (p n q r : ℕ) → q * n + r ≡ p → q * (n * 256) + 256 * r ≡ p * 256

@@ -61,8 +61,20 @@ file_few l h =
     let word : length library_word ≡ 8 = refl in
     let count : length (to_be_bytes w32 (length l.weights)) ≡ 4 = refl in
     let most = (ranges l.shape h.published.good.ranges).documents_high in
-    omega (arith, word, count, most, fields_few l.shape l.terms h.published, entries_long l.weights, h.few, h.records_full, h.bins_full, h.published.good.bins,
-    length-append library_word (parts_bytes l),
-    length-append (fields_bytes l.shape l.terms) (to_be_bytes w32 (length l.weights) ++ (flat_map entry_bytes l.weights ++ (l.records ++ l.bins))),
-    length-append (to_be_bytes w32 (length l.weights)) (flat_map entry_bytes l.weights ++ (l.records ++ l.bins)),
-    length-append (flat_map entry_bytes l.weights) (l.records ++ l.bins), length-append l.records l.bins)
+    omega (
+      arith,
+      word,
+      count,
+      most,
+      fields_few l.shape l.terms h.published,
+      entries_long l.weights,
+      h.few,
+      h.records_full,
+      h.bins_full,
+      h.published.good.bins,
+      length-append library_word (parts_bytes l),
+      length-append (fields_bytes l.shape l.terms) (to_be_bytes w32 (length l.weights) ++ (flat_map entry_bytes l.weights ++ (l.records ++ l.bins))),
+      length-append (to_be_bytes w32 (length l.weights)) (flat_map entry_bytes l.weights ++ (l.records ++ l.bins)),
+      length-append (flat_map entry_bytes l.weights) (l.records ++ l.bins),
+      length-append l.records l.bins,
+    )

@@ -10,7 +10,14 @@ fn each_call(rt: HostRuntime) -> Result<(), Fail> {
     let (places, bins) = pack_bins(rt.alloc(), &[12, 12, 8, 4], 32)?;
     assert_eq!(rt; bins, 2);
     let place = places.as_slice()[3];
-    assert!(rt; place == Place { bin: 1, offset: 0, length: 4 });
+    assert!(rt;
+        place
+            == Place {
+                bin: 1,
+                offset: 0,
+                length: 4
+            }
+    );
     let title = Title::from_text(String::from_str(rt.alloc(), "Harbour")?).expect(&rt, "title");
     let place = Place {
         bin: 0,
@@ -19,7 +26,10 @@ fn each_call(rt: HostRuntime) -> Result<(), Fail> {
     };
     let mut bytes = [1; RECORD_BYTES];
     write_record(1, place, &title, &mut bytes);
-    assert!(rt; bytes[..24] == *b"\x00\x00\x00\x01\x00\x00\x00\x00\x00\x00\x00\x0c\x00\x00\x00\x0c\x07Harbour".as_slice());
+    assert!(rt;
+        bytes[..24]
+            == *b"\x00\x00\x00\x01\x00\x00\x00\x00\x00\x00\x00\x0c\x00\x00\x00\x0c\x07Harbour".as_slice()
+    );
     let read = read_record(rt.alloc(), &bytes).expect(&rt, "record");
     assert_eq!(rt; read.document, 1);
     assert_eq!(rt; read.place, place);
