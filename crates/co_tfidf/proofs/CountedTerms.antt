@@ -23,13 +23,13 @@ use Rattle.std.proofs.lemmas.Cmp.{nat_list_cmp_total}
 use Rattle.co_text.specs.Terms.{terms}
 use Rattle.co_corpus.specs.declared.documents.Document.{Document}
 use Rattle.co_tfidf.specs.declared.postings.Posting.{Posting}
-use Rattle.co_tfidf.specs.Counts.{times, has, df}
+use Rattle.co_tfidf.specs.Counts.{term_frequency, has, document_frequency}
 use Rattle.co_tfidf.specs.Postings.{posting, postings, listed}
 use Rattle.co_tfidf.specs.Vocabulary.{corpus_terms}
 use Rattle.co_tfidf.specs.Tables.{shown}
-use Rattle.co_tfidf.proofs.Lists.{all_head, all_tail}
-use Rattle.co_tfidf.proofs.Sorted.{sorted_same}
-use Rattle.co_tfidf.proofs.InOrder.{in_order-sorted, in_order-members}
+use Rattle.std.proofs.lemmas.List.Elements.{All-head, All-tail}
+use Rattle.co_text.proofs.Sorted.{sorted_same}
+use Rattle.co_text.proofs.InOrder.{in_order-sorted, in_order-members}
 
 less_at : (a b : ℕ) → a < b → (c : Bool) → nat_lt a b ≡ c → c ≡ true
 less_at a b less true is = refl
@@ -43,11 +43,11 @@ some_more true n = less_test 0 (1 + n) (omega arith)
 some_more false n = ap (nat_lt 0) (omega arith)
 
 -- a term stands in a list if it stands there at least once
-pub some_times : (w : List ℕ) (ts : List (List ℕ)) → nat_lt 0 (times w ts) ≡ list_any (bytes_eq w) ts
+pub some_times : (w : List ℕ) (ts : List (List ℕ)) → nat_lt 0 (term_frequency w ts) ≡ list_any (bytes_eq w) ts
 some_times w [] = refl
 some_times w (t ∷ ts) =
     ap (nat_lt 0) (sum_by-cons (λ u. cond (bytes_eq w u) 1 0) t ts)
-    ∙ some_more (bytes_eq w t) (times w ts)
+    ∙ some_more (bytes_eq w t) (term_frequency w ts)
     ∙ ap (λ b. bytes_eq w t || b) (some_times w ts)
 
 length-posting : (document k : ℕ) (b : Bool) → length (cond {A = List Posting} b (record { document = document; count = min k 63 } ∷ []) []) ≡ cond b 1 0
@@ -55,11 +55,11 @@ length-posting document k true = refl
 length-posting document k false = refl
 
 -- a term has as many postings as documents have it
-pub length-postings : (w : List ℕ) (m : ℕ) (ds : List Document) → length (postings w m ds) ≡ df w ds
+pub length-postings : (w : List ℕ) (m : ℕ) (ds : List Document) → length (postings w m ds) ≡ document_frequency w ds
 length-postings w m [] = refl
 length-postings w m (d ∷ ds) =
-    length-append (posting m (times w (terms d.text))) (postings w (m + 1) ds)
-    ∙ rw (length-posting m (times w (terms d.text)) (nat_lt 0 (times w (terms d.text))), some_times w (terms d.text), length-postings w (m + 1) ds)
+    length-append (posting m (term_frequency w (terms d.text))) (postings w (m + 1) ds)
+    ∙ rw (length-posting m (term_frequency w (terms d.text)) (nat_lt 0 (term_frequency w (terms d.text))), some_times w (terms d.text), length-postings w (m + 1) ds)
     (sym (sum_by-cons (λ e. cond (has w e) 1 0) d ds))
 
 some_of_two : (xs ys : List Posting) → is_some (listed (xs ++ ys)) ≡ (is_some (listed xs) || is_some (listed ys))
@@ -74,8 +74,8 @@ some_posting document k false = refl
 pub has_postings : (w : List ℕ) (m : ℕ) (ds : List Document) → is_some (listed (postings w m ds)) ≡ list_any (bytes_eq w) (flat_map (λ d. terms d.text) ds)
 has_postings w m [] = refl
 has_postings w m (d ∷ ds) =
-    some_of_two (posting m (times w (terms d.text))) (postings w (m + 1) ds)
-    ∙ rw (some_posting m (times w (terms d.text)) (nat_lt 0 (times w (terms d.text))), some_times w (terms d.text), has_postings w (m + 1) ds)
+    some_of_two (posting m (term_frequency w (terms d.text))) (postings w (m + 1) ds)
+    ∙ rw (some_posting m (term_frequency w (terms d.text)) (nat_lt 0 (term_frequency w (terms d.text))), some_times w (terms d.text), has_postings w (m + 1) ds)
     (sym (list_any-append (bytes_eq w) (terms d.text) (flat_map (λ e. terms e.text) ds)))
 
 listed_some : (ps v : List Posting) → listed ps ≡ Some v → ps ≡ v
@@ -109,7 +109,7 @@ module _ {Y : Type 0} (m : BTreeMap (String Y) (List Posting)) (ds : List Docume
       → map shown es ≡ map (λ w. (w, postings w 0 ds)) (map (string_bytes {Z = Y}) (keys_of es))
   with_postings [] all = refl
   with_postings (e ∷ es) all =
-      rw (all_head (λ x. postings (string_bytes x.0) 0 ds ≡ x.1) e es all, with_postings es (all_tail (λ x. postings (string_bytes x.0) 0 ds ≡ x.1) e es all)) refl
+      rw (All-head (λ x. postings (string_bytes x.0) 0 ds ≡ x.1) e es all, with_postings es (All-tail (λ x. postings (string_bytes x.0) 0 ds ≡ x.1) e es all)) refl
 
   members : (q : List ℕ) → list_any (eq_by_cmp (slice_cmp nat_cmp) q) (map (string_bytes {Z = Y}) (keys_of m.entries)) ≡ list_any (eq_by_cmp (slice_cmp nat_cmp) q) (corpus_terms ds)
   unfolding corpus_terms

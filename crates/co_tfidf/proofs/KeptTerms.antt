@@ -9,13 +9,13 @@ use Rattle.std.proofs.lemmas.Map.Lookups.{exact_bytes, exact_pairs, exact_unsign
 use Rattle.std.proofs.lemmas.List.{take-map}
 use Rattle.co_corpus.specs.declared.documents.Document.{Document}
 use Rattle.co_tfidf.specs.declared.postings.Posting.{Posting}
-use Rattle.co_tfidf.specs.Counts.{df}
+use Rattle.co_tfidf.specs.Counts.{document_frequency}
 use Rattle.co_tfidf.specs.Postings.{postings}
-use Rattle.co_tfidf.specs.Order.{in_order}
+use Rattle.co_text.specs.Order.{in_order}
 use Rattle.co_tfidf.specs.Vocabulary.{corpus_terms, rank_cmp, vocabulary}
 use Rattle.co_tfidf.specs.Tables.{term_cmp, shown, ranked_as, unranked, put_all}
-use Rattle.co_tfidf.proofs.Lists.{map-map, map_same}
-use Rattle.co_tfidf.proofs.MapInsert.{map-in_order}
+use Rattle.co_tfidf.proofs.Maps.{map-map, map_same}
+use Rattle.co_text.proofs.MapInsert.{map-in_order}
 use Rattle.co_tfidf.proofs.Tables.{put_all-keys}
 use Rattle.co_tfidf.proofs.CountedTerms.{length-postings}
 
@@ -32,7 +32,7 @@ module _ (ds : List Document) where
   tab w = (w, postings w 0 ds)
 
   abbrev ranked_term : List ℕ → Reverse ℕ × List ℕ
-  ranked_term w = (record { 0 = df w ds }, w)
+  ranked_term w = (record { 0 = document_frequency w ds }, w)
 
   abbrev tab_ranked : Reverse ℕ × List ℕ → (Reverse ℕ × List ℕ) × List Posting
   tab_ranked k = (k, postings k.1 0 ds)

@@ -1,8 +1,5 @@
 pub mod Bits
-pub mod Lists
-pub mod Sorted
-pub mod InOrder
-pub mod MapInsert
+pub mod Maps
 pub mod Occurrences
 pub mod Tables
 pub mod CountedTerms
@@ -10,10 +7,10 @@ pub mod KeptTerms
 pub mod TableEntries
 pub mod VocabularyTerms
 pub mod VocabularyLaw
-pub mod HitSteps
 pub mod WeightAt
 pub mod Numbered
 pub mod Scores
 pub mod TermEntries
+pub mod EntryOrder
 pub mod Searched
-pub mod DistinctTerms
+pub mod HitsLaw

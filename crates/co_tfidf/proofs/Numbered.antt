@@ -3,7 +3,7 @@ use Rattle.std.proofs.Common.{◌≡◌, ℕ, zero, suc, ◌+◌, ◌<◌, Bool,
 use Rattle.std.specs.Prelude.{slice_get}
 use borrow.Author.Tests.{eq-eqb, eqb-true}
 use Rattle.co_corpus.specs.declared.documents.Document.{Document}
-use Rattle.co_tfidf.specs.Scores.{weight_in}
+use Rattle.co_tfidf.specs.EntryScores.{weight_in}
 use Rattle.co_tfidf.proofs.WeightAt.{weight_from, weight_of_number}
 
 differs_test : (a b : ℕ) → (a ≡ b → ⊥) → (c : Bool) → (a == b) ≡ c → c ≡ false

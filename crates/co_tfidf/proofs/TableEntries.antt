@@ -7,10 +7,11 @@ use Rattle.std.proofs.lemmas.Bool.{ltb-false}
 use Rattle.co_text.specs.Terms.{terms}
 use Rattle.co_corpus.specs.declared.documents.Document.{Document}
 use Rattle.co_tfidf.specs.declared.postings.Posting.{Posting}
-use Rattle.co_tfidf.specs.Counts.{times, df}
+use Rattle.co_tfidf.specs.Counts.{term_frequency, document_frequency}
 use Rattle.co_tfidf.specs.Weight.{weight, bits}
 use Rattle.co_tfidf.specs.Postings.{posting, postings}
-use Rattle.co_tfidf.specs.Entries.{term_entries, entries, posting_entry, table_entries}
+use Rattle.co_tfidf.specs.Entries.{term_entries, entries}
+use Rattle.co_tfidf.specs.Tables.{posting_entry, table_entries}
 use Rattle.co_tfidf.proofs.CountedTerms.{length-postings}
 use Rattle.co_tfidf.proofs.KeptTerms.{tab}
 
@@ -33,12 +34,12 @@ before_rest true x rest = refl
 before_rest false x rest = refl
 
 of_postings : (documents : List Document) (term : ℕ) (w : List ℕ) (number : ℕ) (ds : List Document)
-    → flat_map (posting_entry term (bits (length documents) (df w documents))) (postings w number ds) ≡ term_entries documents term w number ds
+    → flat_map (posting_entry term (bits (length documents) (document_frequency w documents))) (postings w number ds) ≡ term_entries documents term w number ds
 unfolding weight
 of_postings documents term w number [] = refl
 of_postings documents term w number (d ∷ ds) =
-    let quarters : ℕ = bits (length documents) (df w documents) in
-    let k : ℕ = times w (terms d.text) in
+    let quarters : ℕ = bits (length documents) (document_frequency w documents) in
+    let k : ℕ = term_frequency w (terms d.text) in
     flat_map-append (posting_entry term quarters) (posting number k) (postings w (number + 1) ds)
     ∙ rw (posting_at term quarters number k (nat_lt 0 k) refl, of_postings documents term w (number + 1) ds)
     (before_rest (nat_lt 0 (min k 63 * quarters)) (term, number, min k 63 * quarters) (term_entries documents term w (number + 1) ds))

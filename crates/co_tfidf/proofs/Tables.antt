@@ -6,7 +6,7 @@ use Rattle.std.specs.BTreeSet.{insert_key}
 use Rattle.std.specs.Ordering.{match_ordering}
 use Rattle.std.specs.declared.cmp.Ordering.{Ordering}
 use Rattle.std.specs.declared.cmp.Ordering.TheVariants.{Less, Equal, Greater}
-use Rattle.co_tfidf.specs.Order.{in_order}
+use Rattle.co_text.specs.Order.{in_order}
 use Rattle.co_tfidf.specs.Tables.{put_all}
 
 -- an entry put at its place, seen through a function of the keys that keeps the order

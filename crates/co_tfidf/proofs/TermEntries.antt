@@ -5,8 +5,9 @@ use Rattle.std.specs.List.Sorted.{IsNonDecreasingBy}
 use Rattle.co_corpus.specs.declared.documents.Document.{Document}
 use Rattle.co_tfidf.specs.Weight.{weight}
 use Rattle.co_tfidf.specs.Entries.{term_entries, entries}
-use Rattle.co_tfidf.specs.Scores.{weight_at, document_weight}
-use Rattle.co_tfidf.proofs.Lists.{all_cons, all_none}
+use Rattle.co_tfidf.specs.EntryScores.{weight_at}
+use Rattle.co_tfidf.specs.Added.{document_weight}
+use Rattle.std.proofs.lemmas.List.Elements.{All-cons, All-nil}
 
 -- what the entries of a term add
 weight_step : (t d : ℕ) (e : ℕ × ℕ × ℕ) (es : List (ℕ × ℕ × ℕ)) → weight_at t d es ≡ document_weight d (filter (λ x. x.0 == t) es) → (b : Bool)
@@ -35,7 +36,7 @@ pub record Rises (term : ℕ) (es : List (ℕ × ℕ × ℕ)) : Type 0 where
 one_more : (term document x : ℕ) (es : List (ℕ × ℕ × ℕ)) → Rises term es → Rises term ((term, document, x) ∷ es)
 one_more term document x es rises = record {
   order = rises_cons (λ (e : ℕ × ℕ × ℕ). e.0) (term, document, x) es rises.from rises.order;
-  from = all_cons (λ (e : ℕ × ℕ × ℕ). term ≤ e.0) (term, document, x) es (omega arith) rises.from;
+  from = All-cons (λ (e : ℕ × ℕ × ℕ). term ≤ e.0) (term, document, x) es (omega arith) rises.from;
 }
 
 if_more : (term document x : ℕ) (es rest : List (ℕ × ℕ × ℕ)) → Rises term (es ++ rest) → (b : Bool) → Rises term (cond b ((term, document, x) ∷ es) es ++ rest)
@@ -48,7 +49,7 @@ term_rises documents term w number (d ∷ ds) rest rises =
     if_more term number (weight documents w d) (term_entries documents term w (number + 1) ds) rest (term_rises documents term w (number + 1) ds rest rises) (nat_lt 0 (weight documents w d))
 
 pub entries_rise : (documents : List Document) (term : ℕ) (ws : List (List ℕ)) → Rises term (entries documents term ws)
-entries_rise documents term [] = record { order = λ i j d le h. absurd (omega arith); from = all_none (λ (e : ℕ × ℕ × ℕ). term ≤ e.0) }
+entries_rise documents term [] = record { order = λ i j d le h. absurd (omega arith); from = All-nil (λ (e : ℕ × ℕ × ℕ). term ≤ e.0) }
 entries_rise documents term (w ∷ ws) =
     let rest = entries_rise documents (term + 1) ws in
     term_rises documents term w 0 documents (entries documents (term + 1) ws)

@@ -5,7 +5,7 @@ use borrow.Author.Tests.{eq-eqb}
 use Rattle.co_corpus.specs.declared.documents.Document.{Document}
 use Rattle.co_tfidf.specs.Weight.{weight}
 use Rattle.co_tfidf.specs.Entries.{term_entries, entries}
-use Rattle.co_tfidf.specs.Scores.{weight_at}
+use Rattle.co_tfidf.specs.EntryScores.{weight_at}
 
 weight_at-append : (t d : ℕ) (xs ys : List (ℕ × ℕ × ℕ)) → weight_at t d (xs ++ ys) ≡ weight_at t d xs + weight_at t d ys
 weight_at-append t d [] ys = omega arith

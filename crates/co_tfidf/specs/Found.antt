@@ -1,14 +1,14 @@
 -- What plain search finds.
-use Rattle.std.specs.Prelude.{◌≡◌, ℕ, ◌-◌, List, filter, not, nat_eq, if◌then◌else◌, slice_get, Option, Some, None}
+use Rattle.std.specs.Prelude.{◌≡◌, ℕ, ◌-◌, List, nat_eq, if◌then◌else◌, slice_get, Option, Some, None}
 use Rattle.co_text.specs.declared.found.Found.{Found}
 use Rattle.co_text.specs.declared.found.Hit.{Hit}
 use Rattle.co_corpus.specs.declared.documents.Document.{Document}
 use Rattle.co_tfidf.specs.declared.index.Index.{Index}
 use Rattle.co_text.specs.Terms.{distinct}
-use Rattle.co_tfidf.specs.Vocabulary.{is_kept, vocabulary}
+use Rattle.co_text.specs.Numbers.{unknown_in}
+use Rattle.co_tfidf.specs.Vocabulary.{vocabulary}
 use Rattle.co_tfidf.specs.Entries.{entries}
-use Rattle.co_tfidf.specs.Scores.{scores}
-use Rattle.co_tfidf.specs.Hits.{ranked, hits_of}
+use Rattle.co_tfidf.specs.Hits.{hits_of}
 
 abbrev pub text_or_none : ℕ → Option Document → Option (ℕ × List ℕ)
 text_or_none number None = None
@@ -25,9 +25,9 @@ picked documents pick hits = if nat_eq pick 0 then None else document_of documen
 -- the plain answer: for a vocabulary of at most `most` terms, at most so many hits, a query's terms and a pick
 abbrev pub found : ℕ → List Document → ℕ → List (List ℕ) → ℕ → Found
 found most documents hits query pick = record {
-  hits = hits_of documents hits (ranked (scores most documents query));
-  unknown = filter (λ w. not (is_kept most documents w)) (distinct query);
-  document = picked documents pick (hits_of documents hits (ranked (scores most documents query)));
+  hits = hits_of most documents hits query;
+  unknown = unknown_in (vocabulary most documents) (distinct query);
+  document = picked documents pick (hits_of most documents hits query);
 }
 
 -- the index of a corpus for a vocabulary of at most so many terms

@@ -1,10 +1,11 @@
 pub mod Counts
 pub mod Weight
-pub mod Order
 pub mod Vocabulary
-pub mod Postings
-pub mod Tables
 pub mod Entries
+pub mod EntryScores
 pub mod Scores
 pub mod Hits
 pub mod Found
+pub mod Postings
+pub mod Tables
+pub mod Added

@@ -4,7 +4,7 @@ use Rattle.std.specs.Option.{unwrap_or}
 use Rattle.std.specs.BTreeMap.{BTreeMap, get_by_text}
 use Rattle.co_text.specs.Terms.{terms}
 use Rattle.co_corpus.specs.declared.documents.Document.{Document}
-use Rattle.co_tfidf.specs.Counts.{times}
+use Rattle.co_tfidf.specs.Counts.{term_frequency}
 use Rattle.co_tfidf.specs.declared.postings.Posting.{Posting}
 
 -- one occurrence more, in this document: the last posting counts it if it is of the document, else there is a new one
@@ -22,7 +22,7 @@ posting document count = if nat_lt 0 count then record { document = document; co
 -- the postings of a term in these documents, of which the first has this number
 abbrev pub postings : List ℕ → ℕ → List Document → List Posting
 postings w document [] = []
-postings w document (d ∷ ds) = posting document (times w (terms d.text)) ++ postings w (document + 1) ds
+postings w document (d ∷ ds) = posting document (term_frequency w (terms d.text)) ++ postings w (document + 1) ds
 
 -- the last of the postings, where there is one
 abbrev pub last_posting : List Posting → Posting

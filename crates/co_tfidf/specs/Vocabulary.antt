@@ -9,8 +9,8 @@ use Rattle.std.specs.declared.cmp.Ordering.TheVariants.{Less}
 use Rattle.std.specs.Cmp.Lexicographic.{slice_cmp}
 use Rattle.co_text.specs.Terms.{terms}
 use Rattle.co_corpus.specs.declared.documents.Document.{Document}
-use Rattle.co_tfidf.specs.Counts.{df}
-use Rattle.co_tfidf.specs.Order.{in_order}
+use Rattle.co_tfidf.specs.Counts.{document_frequency}
+use Rattle.co_text.specs.Order.{in_order}
 
 -- the distinct terms of a corpus, in the order of their bytes
 unfoldable pub corpus_terms : List Document → List (List ℕ)
@@ -18,7 +18,7 @@ corpus_terms documents = in_order (slice_cmp nat_cmp) (flat_map (λ d. terms d.t
 
 -- terms of more documents first, and of equally many the lower in bytes
 abbrev pub rank_cmp : List Document → List ℕ → List ℕ → Ordering
-rank_cmp documents v w = ordering_then (nat_cmp (df w documents) (df v documents)) (slice_cmp nat_cmp v w)
+rank_cmp documents v w = ordering_then (nat_cmp (document_frequency w documents) (document_frequency v documents)) (slice_cmp nat_cmp v w)
 
 -- the vocabulary of at most so many terms: the first of the terms by rank, in the order of their bytes
 unfoldable pub vocabulary : ℕ → List Document → List (List ℕ)

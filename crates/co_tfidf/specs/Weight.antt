@@ -2,7 +2,7 @@
 use Rattle.std.specs.Prelude.{ℕ, zero, suc, ◌*◌, ◌^◌, min, Bool, nat_le, if◌then◌else◌, List, length}
 use Rattle.co_text.specs.Terms.{terms}
 use Rattle.co_corpus.specs.declared.documents.Document.{Document}
-use Rattle.co_tfidf.specs.Counts.{times, df}
+use Rattle.co_tfidf.specs.Counts.{term_frequency, document_frequency}
 
 -- the greatest number up to n that passes, or 0
 abbrev pub highest : ℕ → (ℕ → Bool) → ℕ
@@ -15,4 +15,4 @@ bits documents f = highest 64 (λ i. nat_le (2 ^ i * f ^ 4) (documents ^ 4))
 
 -- the weight of a term in a document
 unfoldable pub weight : List Document → List ℕ → Document → ℕ
-weight documents w d = min (times w (terms d.text)) 63 * bits (length documents) (df w documents)
+weight documents w d = min (term_frequency w (terms d.text)) 63 * bits (length documents) (document_frequency w documents)

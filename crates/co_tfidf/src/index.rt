@@ -1,7 +1,6 @@
 // The index of a corpus.
 ghost use Rattle.std.specs.Prelude.{◌≡◌, ◌≤◌, ◌<◌, ◌+◌, ◌^◌, ◌++◌, [], ◌∷◌, ℕ, List, All, map, flat_map, length, IfOk, OnOk, IsUtf8};
-ghost use Rattle.co_tfidf.specs.Tables.{shown};
-ghost use Rattle.co_tfidf.specs.Entries.{posting_entry, table_entries};
+ghost use Rattle.co_tfidf.specs.Tables.{shown, posting_entry, table_entries};
 ghost use Rattle.co_tfidf.specs.Found.{IsIndex};
 ghost use Rattle.co_tfidf.specs.Vocabulary.{IsVocabulary};
 
@@ -10,54 +9,15 @@ use crate::postings::{MOST_COUNTED, Posting, Postings};
 use crate::quarter_bits;
 use crate::vocabulary::keep_terms;
 use co_corpus::Corpus;
+use co_list::Listed;
 use co_text::{Term, Terms};
 use std::alloc::{AllocError, Global};
-use std::marker::Model;
 
-/// Entries of an index: term, document and weight, which a contract sees as a list.
-#[derive(Debug, Drop)]
-pub struct Entries {
-    inner: Vec<(u32, u32, u16)>,
-}
+/// Entries of an index: term, document and weight.
+pub type Entries = Listed<(u32, u32, u16)>;
 
-impl Model for Entries {
-    ghost use Rattle.std.specs.Prelude.{List, ℕ};
-
-    ghost Value = { List (ℕ × ℕ × ℕ) };
-
-    ghost view = { λ e. e.inner.items };
-}
-
-impl Entries {
-    /// The entries of a vector, with no copy.
-    pub fn from_vec(inner: Vec<(u32, u32, u16)>) -> Self
-        ensures { result ≡ inner.items }
-    {
-        Entries { inner }
-    }
-
-    /// The vector, with no copy.
-    pub fn into_vec(self) -> Vec<(u32, u32, u16)>
-        ensures { result.items ≡ self }
-    {
-        self.inner
-    }
-
-    pub fn as_slice(&self) -> &[(u32, u32, u16)]
-        ensures { result.now ≡ self.now }
-    {
-        self.inner.as_slice()
-    }
-
-    pub fn len(&self) -> usize
-        ensures { result ≡ length self.now }
-    {
-        self.inner.len()
-    }
-}
-
-/// The vocabulary of a corpus in the order of bytes, in which a term has its number, and the weights of at least 1,
-/// ascending by the numbers of term and document.
+/// The vocabulary of a corpus in the order of bytes, in which a term has its number, and the weights
+/// of at least 1, ascending by the numbers of term and document.
 #[derive(Debug, Drop)]
 pub struct Index {
     pub terms: Terms,

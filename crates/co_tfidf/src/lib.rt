@@ -1,6 +1,6 @@
 //! The index of a corpus, and plain search in it.
 //!
-//! A term weighs more in a document the more often it stands there, up to 63 times, and the fewer documents have it
+//! A term weighs more in a document the more often it stands there, up to 63 term_frequency, and the fewer documents have it
 //! (a tf-idf in whole numbers, with the inverse frequency in quarters of a bit). [`build_index`] gives the vocabulary
 //! and the weights, [`plain_search`] the plain answer. The one model is the list of documents: vocabulary, weights,
 //! scores and hits are defined straight from it, and the definitions know nothing of the index.
@@ -11,6 +11,7 @@
 
 mod counting;
 mod index;
+pub mod laws;
 mod postings;
 mod search;
 mod vocabulary;

@@ -5,7 +5,7 @@ use Rattle.std.specs.Option.{unwrap_or}
 use Rattle.std.proofs.lemmas.List.{take_all, length-take}
 use Rattle.co_text.specs.Terms.{terms}
 use Rattle.co_corpus.specs.Documents.{IsDocument}
-use Rattle.co_tfidf.specs.Counts.{times}
+use Rattle.co_tfidf.specs.Counts.{term_frequency}
 use Rattle.co_tfidf.specs.Postings.{posting, postings, listed}
 use Rattle.co_tfidf.proofs.Occurrences.{document_step, postings_below, unwrap_listed}
 use Rattle.co_tfidf.proofs.counting.count_documents.Goals as goal
@@ -15,7 +15,7 @@ loop-number-preserved c = λ w.
     let so_far = ap (λ o. unwrap_or o []) (c.loop-number.invariant w) ∙ unwrap_listed _ in
     let d = c.index-documents-number.result in
     c.in_ok-count_document.ensures w
-    ∙ ap (λ ps. listed (ps ++ posting c.loop-number.number (times w (terms d.text)))) so_far
+    ∙ ap (λ ps. listed (ps ++ posting c.loop-number.number (term_frequency w (terms d.text)))) so_far
     ∙ ap listed (document_step w c.args.documents.now c.loop-number.number d c.loop-number-test.true c.index-documents-number.is)
 
 pub count_document-requires : goal.count_document-requires

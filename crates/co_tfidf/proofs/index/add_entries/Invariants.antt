@@ -1,7 +1,7 @@
 -- The entries of the postings so far are added.
 use Rattle.std.proofs.Common.{◌≡◌, ◌++◌, drop}
 use Rattle.std.specs.Prelude.{flat_map}
-use Rattle.co_tfidf.specs.Entries.{posting_entry}
+use Rattle.co_tfidf.specs.Tables.{posting_entry}
 use Rattle.co_tfidf.proofs.index.add_entries.Given as goal
 
 abbrev pub invariant-loop-posting : goal.invariant-loop-posting

@@ -6,10 +6,10 @@ use Rattle.co_corpus.specs.declared.documents.Document.{Document}
 use Rattle.co_tfidf.specs.declared.index.Index.{Index}
 use Rattle.co_tfidf.specs.declared.postings.Posting.{Posting}
 use Rattle.co_tfidf.specs.Vocabulary.{vocabulary, IsVocabulary}
-use Rattle.co_tfidf.specs.Entries.{table_entries}
+use Rattle.co_tfidf.specs.Tables.{table_entries, shown}
 use Rattle.co_tfidf.specs.Found.{IsIndex}
-use Rattle.co_tfidf.specs.Tables.{shown}
-use Rattle.co_tfidf.proofs.Lists.{map-map, map_itself, all_cons, all_none}
+use Rattle.std.proofs.lemmas.List.Elements.{All-cons, All-nil}
+use Rattle.co_tfidf.proofs.Maps.{map-map, map_itself}
 use Rattle.co_tfidf.proofs.VocabularyLaw.{is_vocabulary}
 use Rattle.co_tfidf.proofs.CountedTerms.{counted_terms}
 use Rattle.co_tfidf.proofs.KeptTerms.{kept_terms, tab}
@@ -63,8 +63,8 @@ returns-clause-vocabulary c =
     c.index_of.ensures.terms c.index_of.ensures.terms)
 
 text_keys : {Y : Type 0} (es : List (String Y × List Posting)) → All IsUtf8 (map (λ e. e.0) (map shown es))
-text_keys [] = all_none IsUtf8
-text_keys (e ∷ es) = all_cons IsUtf8 (string_bytes e.0) (map (λ e. e.0) (map shown es)) (IsUtf8-string_bytes e.0) (text_keys es)
+text_keys [] = All-nil IsUtf8
+text_keys (e ∷ es) = All-cons IsUtf8 (string_bytes e.0) (map (λ e. e.0) (map shown es)) (IsUtf8-string_bytes e.0) (text_keys es)
 
 pub returns-clause-text : goal.returns-clause-text
 returns-clause-text c =

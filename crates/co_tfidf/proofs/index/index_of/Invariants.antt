@@ -1,8 +1,7 @@
 -- The terms and entries so far, and those that are left, are all.
 use Rattle.std.proofs.Common.{◌≡◌, ◌+◌, ◌≤◌, ◌++◌, length}
 use Rattle.std.specs.Prelude.{All, map}
-use Rattle.co_tfidf.specs.Tables.{shown}
-use Rattle.co_tfidf.specs.Entries.{table_entries}
+use Rattle.co_tfidf.specs.Tables.{shown, table_entries}
 use Rattle.co_tfidf.proofs.index.index_of.Given as goal
 
 abbrev pub invariant-loop-term : goal.invariant-loop-term

@@ -1,7 +1,7 @@
 -- The weights so far are added.
 use Rattle.std.proofs.Common.{◌≡◌, ℕ, ◌+◌, drop}
 use Rattle.std.specs.Prelude.{slice_index}
-use Rattle.co_tfidf.specs.Scores.{document_weight}
+use Rattle.co_tfidf.specs.Added.{document_weight}
 use Rattle.co_tfidf.proofs.search.add_weights.Given as goal
 
 abbrev pub invariant-loop-document : goal.invariant-loop-document

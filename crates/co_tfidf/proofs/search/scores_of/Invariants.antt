@@ -1,6 +1,6 @@
 use Rattle.std.proofs.Common.{◌≡◌, ◌+◌, ℕ, drop, length}
 use Rattle.std.specs.Prelude.{slice_index}
-use Rattle.co_tfidf.specs.Scores.{query_score}
+use Rattle.co_tfidf.specs.EntryScores.{query_score}
 use Rattle.co_tfidf.proofs.search.scores_of.Given as goal
 
 abbrev pub invariant-loop-term : goal.invariant-loop-term
