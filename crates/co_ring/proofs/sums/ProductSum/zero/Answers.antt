@@ -28,7 +28,7 @@ returns c =
       one_modulus = refl;
       none = refl;
       zeros = record {
-          len = in_order-length l xs ∙ c.exponent.ensures.value;
-          each = λ k u. in_order-get l k xs (omega (arith, u, c.exponent.ensures.value)) ∙ none_is n xs is (place l k);
-        };
+        len = in_order-length l xs ∙ c.exponent.ensures.value;
+        each = λ k u. in_order-get l k xs (omega (arith, u, c.exponent.ensures.value)) ∙ none_is n xs is (place l k);
+      };
     }
