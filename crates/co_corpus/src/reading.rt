@@ -14,8 +14,8 @@ use serde_json::Value;
 use std::alloc::{AllocError, Global};
 use thiserror::Error;
 
-/// Why a file is no corpus. Lines count from 1. The first faulty line decides, and of its faults the first in this
-/// order; `Empty` is left where no line has a fault.
+/// Why a file is no corpus. Lines count from 1. The first faulty line decides, and of its faults
+/// the first in this order; `Empty` is left where no line has a fault.
 #[derive(Clone, Copy, Debug, PartialEq, Eq, Error)]
 pub enum CorpusFault {
     #[error("no document")]
@@ -132,9 +132,10 @@ fn add_line(
     Ok(())
 }
 
-/// The documents of a corpus file, or its first fault. A byte order mark at the front is skipped, and so are lines
-/// of spaces, tabs and carriage returns alone; a last line needs no line feed. Members other than `text` and `title`
-/// are ignored. Each answer but want of memory is exactly that of the definition.
+/// The documents of a corpus file, or its first fault. A byte order mark at the front is skipped,
+/// and so are lines of spaces, tabs and carriage returns alone; a last line needs no line feed.
+/// Members other than `text` and `title` are ignored. Each answer but want of memory is exactly
+/// that of the definition.
 pub fn read_corpus(alloc: Global, bytes: &[u8]) -> Result<Corpus, CorpusFault>
     ensures { IsAnswer (λ c. c) (corpus_of bytes.now) result }
 {

@@ -24,7 +24,8 @@ pub fn a_number_is_a_place()
     ensures placed { (v : List (List ℕ)) (t : List ℕ) (i : ℕ) → IsStrictlySortedBy (slice_cmp nat_cmp) v → slice_get v i ≡ Some t → number_of v t ≡ Some i }
 {}
 
-/// The numbers of distinct terms are distinct places of the vocabulary, no more than there are terms.
+/// The numbers of distinct terms are distinct places of the vocabulary, no more than there are
+/// terms.
 pub fn numbers_are_distinct()
     ensures once { (v ts : List (List ℕ)) → IsDistinct bytes_eq ts → IsDistinct ◌==◌ (numbers_of v ts) }
     ensures within { (v ts : List (List ℕ)) → All (λ n. n < length v) (numbers_of v ts) }

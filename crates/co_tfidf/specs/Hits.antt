@@ -18,8 +18,8 @@ hit_of documents r = record { document = r.document; score = r.score; title = ti
 abbrev pub hits_of : ℕ → List Document → ℕ → List (List ℕ) → List Hit
 hits_of most documents hits query = map (hit_of documents) (ranking hits (scores most documents query))
 
--- what makes a list the hits for a query: the documents of score at least 1 with their titles, by score downwards and
--- then by number, the first so many
+-- what makes a list the hits for a query: the documents of score at least 1 with their titles, by
+-- score downwards and then by number, the first so many
 pub record AreHits (most : ℕ) (documents : List Document) (hits : ℕ) (query : List (List ℕ)) (found : List Hit) : Type 0 where
   pub order : List Ranked
   pub ranked : IsRanking hits (scores most documents query) order

@@ -7,7 +7,8 @@ use Rattle.co_corpus.specs.declared.documents.Document.{Document}
 use Rattle.co_tfidf.specs.Counts.{term_frequency}
 use Rattle.co_tfidf.specs.declared.postings.Posting.{Posting}
 
--- one occurrence more, in this document: the last posting counts it if it is of the document, else there is a new one
+-- one occurrence more, in this document: the last posting counts it if it is of the document, else
+-- there is a new one
 abbrev pub counted : List Posting → ℕ → List Posting
 counted [] document = record { document = document; count = 1 } ∷ []
 counted (p ∷ []) document =

@@ -1,4 +1,5 @@
--- Steps on the way to an index: maps from terms to postings, as lists, and the entries that they give.
+-- Steps on the way to an index: maps from terms to postings, as lists, and the entries that they
+-- give.
 use Rattle.std.specs.Prelude.{ℕ, ◌+◌, ◌*◌, ◌++◌, min, nat_lt, if◌then◌else◌, List, [], ◌∷◌, length, flat_map, String, string_bytes}
 use Rattle.std.specs.declared.cmp.Ordering.{Ordering}
 use Rattle.std.specs.declared.cmp.Reverse.{Reverse}

@@ -20,7 +20,8 @@ corpus_terms documents = in_order (slice_cmp nat_cmp) (flat_map (λ d. terms d.t
 abbrev pub rank_cmp : List Document → List ℕ → List ℕ → Ordering
 rank_cmp documents v w = ordering_then (nat_cmp (document_frequency w documents) (document_frequency v documents)) (slice_cmp nat_cmp v w)
 
--- the vocabulary of at most so many terms: the first of the terms by rank, in the order of their bytes
+-- the vocabulary of at most so many terms: the first of the terms by rank, in the order of their
+-- bytes
 unfoldable pub vocabulary : ℕ → List Document → List (List ℕ)
 vocabulary most documents = in_order (slice_cmp nat_cmp) (take most (in_order (rank_cmp documents) (corpus_terms documents)))
 

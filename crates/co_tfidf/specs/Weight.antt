@@ -9,7 +9,8 @@ abbrev pub highest : ℕ → (ℕ → Bool) → ℕ
 highest zero p = 0
 highest (suc n) p = if p (suc n) then suc n else highest n p
 
--- the greatest i with 2^i * f^4 ≤ documents^4. No i above 64 has it for up to 65,536 documents and 1 ≤ f
+-- the greatest i with 2^i * f^4 ≤ documents^4. No i above 64 has it for up to 65,536 documents and
+-- 1 ≤ f
 unfoldable pub bits : ℕ → ℕ → ℕ
 bits documents f = highest 64 (λ i. nat_le (2 ^ i * f ^ 4) (documents ^ 4))
 

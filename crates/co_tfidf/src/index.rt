@@ -16,8 +16,8 @@ use std::alloc::{AllocError, Global};
 /// Entries of an index: term, document and weight.
 pub type Entries = Listed<(u32, u32, u16)>;
 
-/// The vocabulary of a corpus in the order of bytes, in which a term has its number, and the weights
-/// of at least 1, ascending by the numbers of term and document.
+/// The vocabulary of a corpus in the order of bytes, in which a term has its number, and the
+/// weights of at least 1, ascending by the numbers of term and document.
 #[derive(Debug, Drop)]
 pub struct Index {
     pub terms: Terms,

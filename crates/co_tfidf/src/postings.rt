@@ -15,8 +15,8 @@ pub struct Posting {
     pub count: u16,
 }
 
-/// The documents that have a term, in the order in which they were counted. There is at least one, and the last stands
-/// apart from the others, since it is the one that counts on.
+/// The documents that have a term, in the order in which they were counted. There is at least one,
+/// and the last stands apart from the others, since it is the one that counts on.
 #[derive(Debug, Drop)]
 pub struct Postings {
     before: Vec<Posting>,

@@ -132,8 +132,8 @@ fn pick_document(
 }
 
 /// What plain search finds for a query's terms: at most so many hits, and the document of the
-/// pick-th, counted from 1. The index is that of the corpus for a vocabulary of at most `most` terms.
-/// The query may repeat terms.
+/// pick-th, counted from 1. The index is that of the corpus for a vocabulary of at most `most`
+/// terms. The query may repeat terms.
 pub fn plain_search(
     alloc: Global,
     corpus: &Corpus,

@@ -12,7 +12,8 @@ use std::alloc::{AllocError, Global};
 use std::cmp::Reverse;
 use std::collections::BTreeMap;
 
-/// Terms with their postings, those of more documents first, and of equally many the lower in bytes.
+/// Terms with their postings, those of more documents first, and of equally many the lower in
+/// bytes.
 type Ranked = BTreeMap<(Reverse<usize>, String), Postings>;
 
 // Puts a term at its rank.

@@ -2,7 +2,8 @@
 ghost use Rattle.std.specs.Prelude.{◌≡◌, ◌≤◌, ◌<◌, ◌*◌, ◌^◌, ◌+◌, ℕ};
 ghost use Rattle.co_tfidf.specs.Weight.{bits};
 
-/// The greatest i with 2^i * df^4 <= documents^4: four times the binary logarithm of documents / df, rounded down.
+/// The greatest i with 2^i * df^4 <= documents^4: four times the binary logarithm of documents /
+/// df, rounded down.
 pub fn quarter_bits(documents: u32, df: u32) -> u32
     requires some { 1 ≤ df }
     requires within { df ≤ documents }
