@@ -14,7 +14,7 @@ use Rattle.co_math.specs.Coefficients.{coefficients, IsDegree}
 use Rattle.co_math.specs.Parameters.{plain_modulus}
 use Rattle.co_math.proofs.Residues.{cong-neg, residue-same}
 use Rattle.co_math.proofs.Reduced.{residue_of}
-use Rattle.co_math.proofs.Places.{degree_positive}
+use Rattle.co_math.proofs.Degrees.{degree_positive}
 use Rattle.co_transform.proofs.Reversals.{place-lt, place-place}
 use Rattle.co_ring.specs.Spectra.{AreValues}
 use Rattle.co_ring.proofs.Orderings.{same_levels}
