@@ -14,7 +14,7 @@ use Rattle.co_rns.proofs.Composing.{length-all_composed, get_or-all_composed, co
 use Rattle.co_rns.specs.Pairs.{IsWhole}
 use Rattle.co_math.specs.Coefficients.{IsDegree}
 use Rattle.co_bfv.specs.Secrets.{IsSecret}
-use Rattle.co_bfv.specs.Draws.{drawn, ternary_draw, wide_draw, coefficient_draw, noise_draw, secret_draw, uniform_draw}
+use Rattle.co_bfv.specs.Draws.{drawn, ternary_draw, wide_draw, coefficient_draw, binomial_draw, secret_draw, uniform_draw}
 
 pub drawn-more : {A : Type 0} (draw : Stream → A × Stream) (k : ℕ) (start s t : Stream) (xs : List A) (x : A)
     → (xs, s) ≡ drawn draw k start → (x, t) ≡ draw s → (xs ++ x ∷ [], t) ≡ drawn draw (k + 1) start
@@ -80,11 +80,11 @@ noise_small : (a b : ℕ) → a ≤ error_bound → b ≤ error_bound → unsign
 noise_small a b l m = omega (arith, linear, abs_is (pos a -ℤ pos b))
 
 -- each drawn error is at most 21
-pub errors_small : (n : ℕ) (s : Stream) → AreSmall n error_bound (drawn noise_draw n s).0
-unfolding noise_draw
+pub errors_small : (n : ℕ) (s : Stream) → AreSmall n error_bound (drawn binomial_draw n s).0
+unfolding binomial_draw
 errors_small zero s = none_small error_bound
 errors_small (suc n) s =
-    let before = drawn noise_draw n s in
+    let before = drawn binomial_draw n s in
     let w = (next_u64 before.1).0 in
     let x = pos (count_ones (w % 2 ^ error_bound)) -ℤ pos (count_ones (w / 2 ^ error_bound % 2 ^ error_bound)) in
     subst (λ (k : ℕ). AreSmall k error_bound (before.0 ++ x ∷ [])) (add-one n)

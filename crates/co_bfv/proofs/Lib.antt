@@ -1,4 +1,6 @@
 pub mod Ternary
+pub mod Kept
+pub mod Copies
 pub mod Meant
 pub mod Fresh
 pub mod Decoded

@@ -26,9 +26,9 @@ coefficient_draw s =
     let y = wide_draw x.1 in
     (composed (x.0 % first_modulus) (y.0 % second_modulus), y.1)
 
--- one word: the number of ones in its first 21 bits, the low ones, minus the number of ones in the next 21
-unfoldable pub noise_draw : Stream → ℤ × Stream
-noise_draw s =
+-- one word, by the centred binomial distribution: the number of ones in its first 21 bits, the low ones, minus the number of ones in the next 21
+unfoldable pub binomial_draw : Stream → ℤ × Stream
+binomial_draw s =
     let w = next_u64 s in
     (pos (count_ones (w.0 % 2 ^ error_bound)) -ℤ pos (count_ones (w.0 / 2 ^ error_bound % 2 ^ error_bound)), w.1)
 
@@ -42,7 +42,7 @@ uniform_draw n s = drawn coefficient_draw n s
 
 -- the coefficients of an error
 unfoldable pub error_draw : ℕ → Stream → List ℤ × Stream
-error_draw n s = drawn noise_draw n s
+error_draw n s = drawn binomial_draw n s
 
 -- an encryption: first the uniform polynomial, then the error
 unfoldable pub encryption_draw : List ℤ → List ℕ → Stream → Ciphertext × Stream

@@ -44,6 +44,15 @@ impl Cipher {
         })
     }
 
+    /// Another ciphertext of the same value.
+    pub fn copy(&self, alloc: Global) -> Result<Cipher, AllocError>
+        ensures { IfOk result (λ c. c ≡ self.now) }
+    {
+        let mut copy = Cipher::zero(alloc, Degree::of(self.degree()))?;
+        copy.add_in(self);
+        Ok(copy)
+    }
+
     /// The ciphertext with these two parts.
     pub fn from_parts(c0: Pair, c1: Pair) -> Cipher
         requires { length c1 ≡ length c0 }
@@ -54,12 +63,14 @@ impl Cipher {
         Cipher { c0, c1 }
     }
 
+    /// The part that is added: the phase is c0 + c1 * s.
     pub fn c0(&self) -> &Pair
         ensures { result.now ≡ self.now.c0 }
     {
         &self.c0
     }
 
+    /// The part that the secret multiplies.
     pub fn c1(&self) -> &Pair
         ensures { result.now ≡ self.now.c1 }
     {

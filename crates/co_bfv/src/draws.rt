@@ -4,7 +4,7 @@ ghost use Rattle.std.specs.Prelude.{ℕ, ◌≡◌, ◌<◌, ◌≤◌, length, 
 ghost use Rattle.co_math.specs.Parameters.{q, first_modulus, second_modulus};
 ghost use Rattle.co_rns.specs.Residue_pairs.{composed};
 ghost use Rattle.co_math.specs.Coefficients.{residues_of, signed_coefficients};
-ghost use Rattle.co_bfv.specs.Draws.{ternary_draw, wide_draw, coefficient_draw, noise_draw};
+ghost use Rattle.co_bfv.specs.Draws.{ternary_draw, wide_draw, coefficient_draw, binomial_draw};
 ghost use Rattle.co_bfv.specs.Draws.{secret_draw, uniform_draw, error_draw};
 
 use crate::secrets::Secret;
@@ -34,7 +34,7 @@ pub fn sample_secret<R: Rng>(
     for i in 0..degree.get() {
         coeffs.push(ternary(rng))?;
     }
-    Ok(Secret { coeffs })
+    Ok(Secret::from_coeffs(alloc, degree, coeffs)?)
 }
 
 /// A uniform polynomial modulo q, by four words for each coefficient.
@@ -101,9 +101,10 @@ fn coefficient<R: Rng>(rng: &mut R) -> (u64, u64)
     )
 }
 
-/// One word: the number of ones in its 21 low bits minus the number of ones in the next 21.
-fn noise<R: Rng>(rng: &mut R) -> i8
-    ensures { (result, R.stream rng.new) ≡ noise_draw (R.stream rng.old) }
+/// One word, by the centred binomial distribution: the number of ones in its 21 low bits minus the
+/// number of ones in the next 21.
+fn binomial<R: Rng>(rng: &mut R) -> i8
+    ensures { (result, R.stream rng.new) ≡ binomial_draw (R.stream rng.old) }
 {
     let word = rng.next_u64();
     let low = (word % HALF).count_ones();
@@ -119,7 +120,7 @@ fn errors<R: Rng>(alloc: Global, degree: Degree, rng: &mut R) -> Result<Vec<i8>,
 {
     let mut drawn = Vec::with_capacity(alloc, degree.get() as usize)?;
     for i in 0..degree.get() {
-        drawn.push(noise(rng))?;
+        drawn.push(binomial(rng))?;
     }
     Ok(drawn)
 }

@@ -4,14 +4,15 @@
 //! a secret, where the noise of each coefficient is at most b. A fresh one means its message within
 //! F = 21 * t + 32768, and decryption gives m wherever twice the noise stays below q.
 //! Every random value is a function of the generator's stream of words.
-//! Not here: how a ciphertext is moved to another secret (co_switch), what a message spells
-//! (co_slots), which bounds the product meets (co_noise). No code computes a noise.
+//! A `Secret` keeps its values at the roots of -1, and the tables of the transforms, for its products.
+//! Not here: substitutions and their key switches (co_switch), what a message spells (co_slots),
+//! which bounds the product meets (co_noise). No code computes a noise.
 #![tactic(auto)]
 
-pub mod ciphers;
-pub mod draws;
-pub mod encryption;
-pub mod secrets;
+mod ciphers;
+mod draws;
+mod encryption;
+mod secrets;
 mod signed;
 
 pub use ciphers::Cipher;

@@ -8,28 +8,52 @@ ghost use Rattle.co_bfv.specs.Secrets.{IsSecret};
 
 use crate::signed::residues;
 use co_ring::Degree;
-use co_rns::Pair;
+use co_rns::{Pair, PairSpectrum, Tables, from_spectrum, to_spectrum};
 use std::alloc::{AllocError, Global};
 use std::marker::Model;
 
-/// A secret polynomial: n coefficients, each -1, 0 or 1.
+/// A secret polynomial: n coefficients, each -1, 0 or 1. Its values at the roots of -1 and the
+/// tables of the transforms are made once and kept.
 #[derive(Drop)]
 pub struct Secret {
-    pub(crate) coeffs: Vec<i8>,
+    coeffs: Vec<i8>,
+    tables: Tables,
+    values: PairSpectrum,
 }
 
 impl Model for Secret {
     ghost use Rattle.std.specs.Prelude.{ℤ, List};
-    ghost use Rattle.co_bfv.specs.Secrets.{IsSecret};
+    ghost use Rattle.co_bfv.specs.Secrets.{IsKept};
 
     ghost Value = { List ℤ };
 
     ghost view = { λ s. s.coeffs.items };
 
-    ghost invariant = { λ s. IsSecret s.coeffs.items };
+    ghost invariant = { λ s. IsKept s.coeffs.items s.tables s.values };
 }
 
 impl Secret {
+    /// The secret with these coefficients, the constant first.
+    pub fn from_coeffs(
+        alloc: Global,
+        degree: Degree,
+        coeffs: Vec<i8>,
+    ) -> Result<Secret, AllocError>
+        requires small { IsSecret coeffs.items }
+        requires one_degree { length coeffs.items ≡ degree }
+        ensures { IfOk result (λ s. s ≡ coeffs.items) }
+    {
+        let whole = residues(alloc, degree, &coeffs)?;
+        let tables = Tables::new(alloc, degree)?;
+        let mut values = PairSpectrum::zero(alloc, degree)?;
+        to_spectrum(&tables, &whole, &mut values);
+        Ok(Secret {
+            coeffs,
+            tables,
+            values,
+        })
+    }
+
     /// The number of coefficients.
     pub fn degree(&self) -> usize
         ensures value { result ≡ length self.now }
@@ -47,15 +71,20 @@ impl Secret {
         residues(alloc, Degree::of(self.coeffs.len()), &self.coeffs)
     }
 
-    /// The product with a polynomial modulo q.
+    /// The product with a polynomial modulo q, by two transforms.
     pub fn mul(&self, alloc: Global, other: &Pair) -> Result<Pair, AllocError>
         requires { length other.now ≡ length self.now }
         ensures value { IfOk result (λ p. let n = length self.now in
             p ≡ residues_of q n (product n (coefficients other.now) (signed_coefficients self.now))) }
         ensures degree { IfOk result (λ p. length p ≡ length self.now) }
     {
-        let _ = self.degree();
-        let secret = self.residues(alloc)?;
-        Ok(other.mul(alloc, &secret)?)
+        let degree = self.tables.degree();
+        let mut factor = PairSpectrum::zero(alloc, degree)?;
+        to_spectrum(&self.tables, other, &mut factor);
+        let mut values = PairSpectrum::zero(alloc, degree)?;
+        values.mul_add(&factor, &self.values);
+        let mut product = Pair::zero(alloc, degree)?;
+        from_spectrum(&self.tables, &values, &mut product);
+        Ok(product)
     }
 }

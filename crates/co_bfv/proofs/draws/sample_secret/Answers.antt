@@ -8,7 +8,7 @@ unfolding secret_draw
 returns-clause-value g c =
     let s = g.R.Rng.stream c.args.rng.now in
     let all : c.loop-i.i ≡ c.args.degree = omega (arith, c.get-i-end.ensures.value) in
-    ap (λ (p : List ℤ × Stream). p.0) (c.loop-i.invariant.so_far ∙ ap (λ (k : ℕ). drawn ternary_draw k s) all)
+    c.in_ok-from_coeffs.ensures ∙ ap (λ (p : List ℤ × Stream). p.0) (c.loop-i.invariant.so_far ∙ ap (λ (k : ℕ). drawn ternary_draw k s) all)
 
 pub returns-clause-rest : goal.returns-clause-rest
 unfolding secret_draw

@@ -1,12 +1,12 @@
 use Rattle.std.proofs.Common.{ℕ, ℤ, ◌/◌, ◌%◌, ◌^◌, ap, ◌∙◌, pos, ◌-ℤ◌, count_ones}
 use Rattle.co_math.specs.Parameters.{error_bound}
 use Rattle.rand_core.specs.Stream.{Stream}
-use Rattle.co_bfv.specs.Draws.{noise_draw}
+use Rattle.co_bfv.specs.Draws.{binomial_draw}
 use Rattle.co_bfv.proofs.Drawn.{ones_is, ones_small}
-use Rattle.co_bfv.proofs.draws.noise.Goals as goal
+use Rattle.co_bfv.proofs.draws.binomial.Goals as goal
 
 pub returns : goal.returns
-unfolding noise_draw
+unfolding binomial_draw
 returns g c =
     let w = c.next_u64-word.result in
     ap (λ (x : ℤ). (x, g.R.Rng.stream c.next_u64-word.new.self)) (ones_is (count_ones (w % 2 ^ error_bound)) (count_ones (w / 2 ^ error_bound % 2 ^ error_bound)) (ones_small w) (ones_small (w / 2 ^ error_bound)))
