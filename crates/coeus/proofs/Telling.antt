@@ -4,49 +4,49 @@ use Rattle.std.specs.Prelude.{Result, is_ok, Err, IsErr}
 use Rattle.std.proofs.lemmas.List.{take_more}
 use mathlib.Core.Bool.{true≢false}
 use Rattle.co_link.specs.Causes.{Rose}
-use Rattle.co_link.specs.Held.{Appends}
+use Rattle.co_link.specs.Held.{Appends, TookWhole}
 use Rattle.co_link.specs.declared.sink.Failed.{Failed}
 use Rattle.coeus.specs.Outside.{SinkState}
 use Rattle.coeus.specs.Refusals.{flat, Says}
 
 -- no piece
-pub took_nothing : (was : Option (List ℕ)) → Appends was was [] (Ok tt)
+pub took_nothing : (was : Option (List ℕ)) → TookWhole was was []
 took_nothing None = refl
 took_nothing (Some old) = ap Some (sym (append-nil old))
 
 -- two pieces, one after the other, are one
-pub took_more : (was mid is : Option (List ℕ)) (p q : List ℕ) → Appends was mid p (Ok tt) → Appends mid is q (Ok tt)
-    → Appends was is (p ++ q) (Ok tt)
-took_more None mid is p q first second = subst (λ (m : Option (List ℕ)). Appends m is q (Ok tt)) first second
+pub took_more : (was mid is : Option (List ℕ)) (p q : List ℕ) → TookWhole was mid p → TookWhole mid is q
+    → TookWhole was is (p ++ q)
+took_more None mid is p q first second = subst (λ (m : Option (List ℕ)). TookWhole m is q) first second
 took_more (Some old) mid is p q first second =
-    subst (λ (m : Option (List ℕ)). Appends m is q (Ok tt)) first second ∙ ap Some (append_assoc old p q)
+    subst (λ (m : Option (List ℕ)). TookWhole m is q) first second ∙ ap Some (append_assoc old p q)
 
 -- one part more
 pub flat-more : {A : Type 0} (f : A → List ℕ) (xs : List A) (x : A) → flat (map f (xs ++ x ∷ [])) ≡ flat (map f xs) ++ f x
 flat-more f [] x = append-nil (f x)
 flat-more f (y ∷ ys) x = ap (λ (t : List ℕ). f y ++ t) (flat-more f ys x) ∙ sym (append_assoc (f y) (flat (map f ys)) (f x))
 
-appended : (was is : Option (List ℕ)) (piece : List ℕ) (r : Result (Unit {0}) Failed) → is_ok r ≡ true → Appends was is piece r → Appends was is piece (Ok tt)
+appended : (was is : Option (List ℕ)) (piece : List ℕ) (r : Result (Unit {0}) Failed) → is_ok r ≡ true → Appends was is piece r → TookWhole was is piece
 appended was is piece (Ok u) ok took = took
 appended was is piece (Err failed) ok took = absurd (true≢false (sym ok))
 
 -- the parts up to this one were put, and this one too
 pub part_more : (xs : List (Bor (List ℕ))) (i : ℕ) (d : Bor (List ℕ)) (was mid is : Option (List ℕ)) (piece : List ℕ) (r : Result (Unit {0}) Failed)
     → i < length xs → piece ≡ (get_or xs i d).now → is_ok r ≡ true
-    → Appends was mid (flat (map (λ x. x.now) (take i xs))) (Ok tt) → Appends mid is piece r
-    → Appends was is (flat (map (λ x. x.now) (take (i + 1) xs))) (Ok tt)
+    → TookWhole was mid (flat (map (λ x. x.now) (take i xs))) → Appends mid is piece r
+    → TookWhole was is (flat (map (λ x. x.now) (take (i + 1) xs)))
 part_more xs i d was mid is piece r within same ok first second =
     let now : Bor (List ℕ) → List ℕ = λ x. x.now in
     let all = took_more was mid is (flat (map now (take i xs))) piece first (appended mid is piece r ok second) in
     let text : flat (map now (take i xs)) ++ piece ≡ flat (map now (take (i + 1) xs)) =
         ap (λ (t : List ℕ). flat (map now (take i xs)) ++ t) same ∙ sym (flat-more now (take i xs) (get_or xs i d))
         ∙ ap (λ (ys : List (Bor (List ℕ))). flat (map now ys)) (sym (take_more xs i d within)) in
-    subst (λ (t : List ℕ). Appends was is t (Ok tt)) text all
+    subst (λ (t : List ℕ). TookWhole was is t) text all
 
 -- three puts, of which none failed where the count didn't rise
 pub said : (a b c d : ℕ) (was one two is : Option (List ℕ)) (p q r : List ℕ) → a ≤ b → b ≤ c → c ≤ d
-    → (¬ (Rose a b) → Appends was one p (Ok tt)) → (¬ (Rose b c) → Appends one two q (Ok tt)) → (¬ (Rose c d) → Appends two is r (Ok tt))
-    → ¬ (Rose a d) → Appends was is (p ++ (q ++ r)) (Ok tt)
+    → (¬ (Rose a b) → TookWhole was one p) → (¬ (Rose b c) → TookWhole one two q) → (¬ (Rose c d) → TookWhole two is r)
+    → ¬ (Rose a d) → TookWhole was is (p ++ (q ++ r))
 said a b c d was one two is p q r ab bc cd first second third kept =
     let rest = took_more one two is q r (second (λ rose. kept (omega (arith, rose)))) (third (λ rose. kept (omega (arith, rose)))) in
     took_more was one is p (q ++ r) (first (λ rose. kept (omega (arith, rose)))) rest

@@ -1,10 +1,8 @@
 -- What the program meets outside itself, at one moment of a call.
-use Rattle.std.specs.Prelude.{◌≡◌, ℕ, ◌≤◌, List, Option, Some, Ok, Err, IsSome, length}
+use Rattle.std.specs.Prelude.{◌≡◌, ℕ, List, Option, Some}
 use Rattle.co_link.specs.Causes.{Rose}
-use Rattle.co_link.specs.Files.{Folder, FileCall, file_at, IsLonger}
-use Rattle.co_link.specs.Held.{Appends}
-use Rattle.co_link.specs.declared.sink.Failed.{Failed}
-use Rattle.coeus.specs.declared.limits.TheConstants.{MAX_CORPUS}
+use Rattle.co_link.specs.Files.{Folder, FileCall}
+use Rattle.co_link.specs.Held.{TookWhole, TookPrefix}
 
 -- what files hold, where they tell it, how often a call of theirs failed, and the last that failed
 pub record FilesState : Type 0 where
@@ -38,11 +36,11 @@ outside files out = record { files = files; out = out }
 
 -- a sink took these bytes, whole
 abbrev pub Took : SinkState → SinkState → List ℕ → Type 0
-Took was is text = Appends was.bytes is.bytes text (Ok tt)
+Took was is text = TookWhole was.bytes is.bytes text
 
 -- a put of these bytes failed, of which a front was taken
 pub record TookFront (was is : SinkState) (text : List ℕ) : Type 0 where
-  pub front : Appends was.bytes is.bytes text (Err (record {}))
+  pub front : TookPrefix was.bytes is.bytes text
   pub rose : Rose was.faults is.faults
 
 -- this call on the files failed

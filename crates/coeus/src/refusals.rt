@@ -1,7 +1,7 @@
 // Why the program refuses, with which status, and the line that it puts on the error output.
-ghost use Rattle.std.specs.Prelude.{◌≡◌, ◌≤◌, Ok, map, string_bytes};
+ghost use Rattle.std.specs.Prelude.{◌≡◌, ◌≤◌, map, string_bytes};
 ghost use Rattle.co_link.specs.Causes.{Rose};
-ghost use Rattle.co_link.specs.Held.{Appends};
+ghost use Rattle.co_link.specs.Held.{TookWhole};
 ghost use Rattle.coeus.specs.Refusals.{status_of, status_of_corpus, status_of_publishing, name_of};
 ghost use Rattle.coeus.specs.Refusals.{with_number, line_text, corpus_text, test_text};
 ghost use Rattle.coeus.specs.Refusals.{setting_text, publishing_text, text_of, flat, Says};
@@ -79,8 +79,8 @@ fn put_parts<E: Sink>(parts: &[&str], err: &mut E)
     ensures later { E.faults err.old ≤ E.faults err.new }
     ensures says {
         ¬ (Rose (E.faults err.old) (E.faults err.new)) →
-        Appends (E.put_so_far err.old) (E.put_so_far err.new)
-            (flat (map (λ part. part.now) parts.now)) (Ok tt) }
+        TookWhole (E.put_so_far err.old) (E.put_so_far err.new)
+            (flat (map (λ part. part.now) parts.now)) }
 {
     for part in parts {
         if err.put(part.as_bytes()).is_err() {

@@ -1,7 +1,7 @@
 use Rattle.std.proofs.Common.{refl, ap, ◌∙◌, Err}
 use Rattle.coeus.specs.Commands.{import_shown}
 use Rattle.coeus.specs.Imports.{import_text}
-use Rattle.coeus.proofs.Importing.{import_answer, others_kept, rose_since}
+use Rattle.coeus.proofs.Importing.{import_answer, not_written, others_kept, rose_since}
 use Rattle.coeus.proofs.publish.import.Goals as goal
 
 pub returns-in-Err-Failed : goal.returns-in-Err-Failed
@@ -18,7 +18,11 @@ returns-in-Err-Failed g c =
     }
 
 pub returns-in-Err-write : goal.returns-in-Err-write
-returns-in-Err-write g c = ?
+returns-in-Err-write g c = record {
+  cause = tt;
+  out = refl;
+  files = not_written _ _ _ _ c.in-Err-write.field-0 c.in-Err-write.not-Failed c.in-Err-write.ensures.bytes ∙ c.read_documents.ensures.files;
+}
 
 pub returns-in-Ok-put : goal.returns-in-Ok-put
 returns-in-Ok-put g c = record {

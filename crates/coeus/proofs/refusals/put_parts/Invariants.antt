@@ -1,6 +1,6 @@
-use Rattle.std.proofs.Common.{◌≤◌, Ok, ℕ, List, map, take, Bor}
+use Rattle.std.proofs.Common.{◌≤◌, ℕ, List, map, take, Bor}
 use Rattle.co_link.specs.Causes.{Rose}
-use Rattle.co_link.specs.Held.{Appends}
+use Rattle.co_link.specs.Held.{TookWhole}
 use Rattle.coeus.specs.Refusals.{flat}
 use Rattle.coeus.proofs.refusals.put_parts.Given as goal
 
@@ -8,5 +8,5 @@ abbrev pub invariant-loop-part : goal.invariant-loop-part
 invariant-loop-part g l = record {
   later : g.E.Sink.faults l.initial.err ≤ g.E.Sink.faults l.err;
   took : ¬ (Rose (g.E.Sink.faults l.initial.err) (g.E.Sink.faults l.err))
-      → Appends (g.E.Sink.put_so_far l.initial.err) (g.E.Sink.put_so_far l.err) (flat (map (λ part. part.now) (take l.part-index l.parts))) (Ok tt);
+      → TookWhole (g.E.Sink.put_so_far l.initial.err) (g.E.Sink.put_so_far l.err) (flat (map (λ part. part.now) (take l.part-index l.parts)));
 }
