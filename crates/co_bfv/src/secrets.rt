@@ -34,11 +34,7 @@ impl Model for Secret {
 
 impl Secret {
     /// The secret with these coefficients, the constant first.
-    pub fn from_coeffs(
-        alloc: Global,
-        degree: Degree,
-        coeffs: Vec<i8>,
-    ) -> Result<Secret, AllocError>
+    pub fn from_coeffs(alloc: Global, degree: Degree, coeffs: Vec<i8>) -> Result<Secret, AllocError>
         requires small { IsSecret coeffs.items }
         requires one_degree { length coeffs.items ≡ degree }
         ensures { IfOk result (λ s. s ≡ coeffs.items) }

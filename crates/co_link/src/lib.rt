@@ -2,16 +2,17 @@
 //! them, connections and the port where they come in, and links to a server.
 //!
 //! Each trait has a count of faults, which rises with a call that failed and with no other. What an
-//! object holds or has left is told over memory, and isn't told over the real system; the clauses on
-//! content hold where it is told. Which call failed last, and how a port or a link was called, is told
-//! always. One object may have several of the traits: a call of one leaves what the others tell.
+//! object holds or has left is told over memory, and isn't told over the real system; the clauses
+//! on content hold where it is told. Which call failed last, and how a port or a link was called,
+//! is told always. One object may have several of the traits: a call of one leaves what the others
+//! tell.
 //!
-//! In memory: [`MemoryFiles`], [`MemorySource`], [`MemorySink`], [`MemoryConnection`], [`MemoryPort`],
-//! [`ScriptLink`], and [`FailNth`] round another link. Each has a list of calls that are to fail, a
-//! [`FailingCalls`].
+//! In memory: [`MemoryFiles`], [`MemorySource`], [`MemorySink`], [`MemoryConnection`],
+//! [`MemoryPort`], [`ScriptLink`], and [`FailNth`] round another link. Each has a list of calls
+//! that are to fail, a [`FailingCalls`].
 //!
-//! Over std: [`StdFiles`], [`StdSource`], [`StdSink`], [`StdStream`], [`TcpPort`]. These are a few lines each and the
-//! trusted edge.
+//! Over std: [`StdFiles`], [`StdSource`], [`StdSink`], [`StdStream`], [`TcpPort`]. These are a few
+//! lines each and the trusted edge.
 //!
 //! Not here: what the bytes mean, and which file or connection a command uses.
 #![tactic(auto)]

@@ -6,9 +6,9 @@ ghost use Rattle.co_link.specs.Fresh.{IsFresh};
 use crate::{Duplex, Failed, FailingCalls, MemoryConnection, Port, Sink, Source};
 use std::alloc::{AllocError, Global};
 
-/// A port for tests. Its calls to listen and to accept count together. One that is to fail does, and
-/// so does an accept with nothing waiting. Without a current connection there is nothing to take,
-/// and a put fails.
+/// A port for tests. Its calls to listen and to accept count together. One that is to fail does,
+/// and so does an accept with nothing waiting. Without a current connection there is nothing to
+/// take, and a put fails.
 #[derive(Drop)]
 pub struct MemoryPort {
     waiting: Vec<MemoryConnection>,
@@ -41,8 +41,8 @@ fn keep_ended(ended: &mut Vec<MemoryConnection>, done: Option<MemoryConnection>)
 impl MemoryPort {
     ghost use Rattle.co_link.specs.MemoryPort.{port_tells, port_calls, told_at_first};
 
-    /// A port at which these connections wait, to which nothing was put yet. It takes the memory to keep
-    /// them all.
+    /// A port at which these connections wait, to which nothing was put yet. It takes the memory to
+    /// keep them all.
     pub fn new(
         alloc: Global,
         waiting: Vec<MemoryConnection>,

@@ -1,4 +1,5 @@
-// A source in memory, which gives its bytes in pieces of a stated size and has a list of calls that are to fail.
+// A source in memory, which gives its bytes in pieces of a stated size and has a list of calls that
+// are to fail.
 ghost use Rattle.std.specs.Prelude.{◌≡◌, ◌≤◌, ◌<◌, Some, [], vec_len};
 ghost use Rattle.co_link.specs.Calls.{calls_failing};
 ghost use Rattle.co_link.specs.Causes.{HasCause};

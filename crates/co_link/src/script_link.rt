@@ -11,8 +11,8 @@ use crate::dials::{Dials, LinkFailures};
 use crate::{Dial, Exchange, FailingCalls, Link, LinkFault, Reply, Request};
 use std::alloc::{AllocError, Global};
 
-/// A link for tests, always ready. Its dials and exchanges count together. An exchange that isn't to
-/// fail gives the first reply that is left, and fails where none is. It doesn't look at limits.
+/// A link for tests, always ready. Its dials and exchanges count together. An exchange that isn't
+/// to fail gives the first reply that is left, and fails where none is. It doesn't look at limits.
 #[derive(Drop)]
 pub struct ScriptLink {
     alloc: Global,

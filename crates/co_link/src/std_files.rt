@@ -43,8 +43,8 @@ impl<'a, R: rt::Files> StdFiles<'a, R> {
     }
 }
 
-/// All that a source has left, where it is at most `limit` bytes; the first `limit` bytes and one more
-/// decide. `length` is what the source is expected to have.
+/// All that a source has left, where it is at most `limit` bytes; the first `limit` bytes and one
+/// more decide. `length` is what the source is expected to have.
 pub fn read_within<S: Source>(
     alloc: Global,
     source: &mut S,
@@ -121,8 +121,8 @@ fn fill_file<F: Write + OpenFile + Drop>(
     file.sync_all()
 }
 
-// Writes a file beside the name and renames it over that; after a fault it takes that file away, and
-// what was under the name is as before.
+// Writes a file beside the name and renames it over that; after a fault it takes that file away,
+// and what was under the name is as before.
 fn replace_file<R: rt::Files>(
     rt: &R,
     alloc: Global,

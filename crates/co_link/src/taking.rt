@@ -61,7 +61,8 @@ fn make_room(
     buffer.resize(wanted.min(most), 0)
 }
 
-// Takes behind the bytes that are filled, until `most` are or the source has no more; gives how many are.
+// Takes behind the bytes that are filled, until `most` are or the source has no more; gives how
+// many are.
 fn fill<S: Source>(
     buffer: &mut Vec<u8>,
     source: &mut S,
@@ -89,9 +90,10 @@ fn fill<S: Source>(
     (filled, Ok(()))
 }
 
-/// Takes bytes behind those of the buffer, until it has `most` bytes or the source has no more. After
-/// a fault what was taken before it stands there too. The buffer grows as bytes come; `expected` is
-/// how many the caller expects it to have, and its room is at least that from the first take on.
+/// Takes bytes behind those of the buffer, until it has `most` bytes or the source has no more.
+/// After a fault what was taken before it stands there too. The buffer grows as bytes come;
+/// `expected` is how many the caller expects it to have, and its room is at least that from the
+/// first take on.
 pub fn take_up_to<S: Source>(
     buffer: &mut Vec<u8>,
     source: &mut S,

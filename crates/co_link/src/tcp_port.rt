@@ -15,7 +15,8 @@ struct PortCalls {
     connected: bool,
 }
 
-/// A port of the system, at all its IPv4 addresses. It tells how it was called, and nothing of content.
+/// A port of the system, at all its IPv4 addresses. It tells how it was called, and nothing of
+/// content.
 pub struct TcpPort<'a, R: Net> {
     net: &'a R,
     listener: Option<R::Listener>,

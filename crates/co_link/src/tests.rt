@@ -1,11 +1,14 @@
-// What no clause says: that calls succeed where there is memory, and the adapters over the real system.
+// What no clause says: that calls succeed where there is memory, and the adapters over the real
+// system.
+ghost use Rattle.std.specs.Prelude.{◌≡◌, true, OnSome};
+
 use super::*;
 use std::alloc::{AllocError, Global};
 use std::collections::BTreeMap;
 use std::fs;
 use std::fs::File;
 use std::io::{Read, Write};
-use std::net::{Net, TcpStream};
+use std::net::TcpStream;
 use std::test::Fail;
 
 fn second_fails(alloc: Global) -> Result<FailingCalls, AllocError> {
@@ -169,7 +172,9 @@ fn streams_of_the_system(rt: HostRuntime) -> Result<(), Fail> {
 }
 
 // The first port of a few that nobody has.
-fn listen_somewhere<R: Net>(port: &mut TcpPort<'_, R>) -> Option<u16> {
+fn listen_somewhere<P: Port>(port: &mut P) -> Option<u16>
+    ensures { OnSome result ((P.tells port.new).listening ≡ true) }
+{
     for number in 47_310..47_360 {
         if port.listen(number).is_ok() {
             return Some(number);

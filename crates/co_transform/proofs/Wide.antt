@@ -2,7 +2,7 @@
 use Rattle.std.proofs.Common.{◌≡◌, ℕ, ◌+◌, ◌-◌, ◌*◌, ◌/◌, ◌%◌, ◌^◌, ◌<◌, ◌≤◌, ap, ◌∙◌, arith, sym, ⊎_elim}
 use Rattle.std.proofs.lemmas.Bool.{cases_lt}
 use Rattle.std.proofs.lemmas.Nat.{mul-mod_second}
-use Rattle.std.proofs.Math.Nat.{add-mul-mod_self_right, mod-eq_of_lt}
+use Rattle.std.proofs.Math.Nat.{add-mul-mod_self_right}
 use Rattle.co_transform.proofs.Shoup.{sum_mod, low_mod, high_mod}
 
 pub wide_mod : (x h l high low fold q : ℕ) → h ≡ x / 2 ^ 64 → l ≡ x % 2 ^ 64 → fold ≡ 2 ^ 64 % q → high % q ≡ h * fold % q → low % q ≡ l * 1 % q → (high + low) % q ≡ x % q

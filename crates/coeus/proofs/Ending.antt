@@ -118,7 +118,7 @@ import_due i was is Output kept r can = absurd (kept.out r.took.rose)
 import_due i was is (Publish fault) kept r can =
     publish_due can.documents i.settings can.library fault can.published
     (subst (λ (ds : List Document). IsRefused ds i.settings fault)
-        (same_documents was.files.held i.corpus can.documents r.cause.documents can.corpus r.cause.corpus) r.cause.refused)
+    (same_documents was.files.held i.corpus can.documents r.cause.documents can.corpus r.cause.corpus) r.cause.refused)
 import_due i was is (File Write) kept r can = absurd (kept.files r.cause.failed.rose)
 import_due i was is refusal kept r can = read_due i.corpus was.files is.files can.documents refusal can.corpus kept.files r.cause
 

@@ -39,8 +39,8 @@ part_more xs i d was mid is piece r within same ok first second =
     let now : Bor (List ℕ) → List ℕ = λ x. x.now in
     let all = took_more was mid is (flat (map now (take i xs))) piece first (appended mid is piece r ok second) in
     let text : flat (map now (take i xs)) ++ piece ≡ flat (map now (take (i + 1) xs)) =
-        ap (λ (t : List ℕ). flat (map now (take i xs)) ++ t) same ∙ sym (flat-more now (take i xs) (get_or xs i d))
-        ∙ ap (λ (ys : List (Bor (List ℕ))). flat (map now ys)) (sym (take_more xs i d within)) in
+    ap (λ (t : List ℕ). flat (map now (take i xs)) ++ t) same ∙ sym (flat-more now (take i xs) (get_or xs i d))
+    ∙ ap (λ (ys : List (Bor (List ℕ))). flat (map now ys)) (sym (take_more xs i d within)) in
     subst (λ (t : List ℕ). TookWhole was is t) text all
 
 -- three puts, of which none failed where the count didn't rise

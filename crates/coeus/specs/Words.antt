@@ -105,18 +105,18 @@ or_wrong speak (Some words) = speak words
 abbrev pub pick_of : Options → Option ℕ
 pick_of o =
     if is_none o.degree && is_none o.salt && is_none o.chunks
-        && is_within 1 MAX_PICK (unwrap_or o.pick DEFAULT_PICK)
+    && is_within 1 MAX_PICK (unwrap_or o.pick DEFAULT_PICK)
     then Some (unwrap_or o.pick DEFAULT_PICK) else None
 
 -- `plain` has a query, and the options `--terms`, `--hits` and `--pick`
 abbrev pub plain_of : List ℕ → Rest → Option PlainWords
 plain_of corpus rest = option_and_then (λ query. option_map (λ pick. record {
-      corpus = corpus;
-      terms = unwrap_or rest.options.terms DEFAULT_TERMS;
-      hits = unwrap_or rest.options.hits DEFAULT_HITS;
-      pick = pick;
-      query = query;
-    }) (pick_of rest.options)) rest.query
+  corpus = corpus;
+  terms = unwrap_or rest.options.terms DEFAULT_TERMS;
+  hits = unwrap_or rest.options.hits DEFAULT_HITS;
+  pick = pick;
+  query = query;
+}) (pick_of rest.options)) rest.query
 
 -- behind `plain`: CORPUS, options, `--` and a query
 abbrev pub plain_words : List (List ℕ) → Option PlainWords
@@ -141,7 +141,7 @@ settings_of rest =
 abbrev pub import_of : List ℕ → List ℕ → Rest → Option ImportWords
 import_of corpus library rest =
     option_map (λ settings. record { corpus = corpus; library = library; settings = settings })
-        (settings_of rest)
+    (settings_of rest)
 
 -- behind `import`: CORPUS, LIBRARY and options
 abbrev pub import_words : List (List ℕ) → Option ImportWords

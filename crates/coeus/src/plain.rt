@@ -71,8 +71,7 @@ fn search(
 /// The corpus of a file.
 pub fn read_documents<F: Files>(alloc: Global, name: &str, files: &mut F) -> Result<Corpus, Refusal>
     ensures ok { IfOk result (HasCorpus (F.held files.old) name.now) }
-    ensures cause {
-        let was = files_state (F.held files.old) (F.faults files.old) (F.last_failed files.old) in
+    ensures cause { let was = files_state (F.held files.old) (F.faults files.old) (F.last_failed files.old) in
         let is = files_state (F.held files.new) (F.faults files.new) (F.last_failed files.new) in
         IfErr result (ReadCause name.now was is) }
     ensures files { F.held files.new ≡ F.held files.old }
@@ -92,11 +91,7 @@ pub fn read_documents<F: Files>(alloc: Global, name: &str, files: &mut F) -> Res
 }
 
 // The text of what is found in a corpus.
-fn answer(
-    alloc: Global,
-    corpus: &Corpus,
-    command: &PlainCommand<'_>,
-) -> Result<Bytes, Refusal>
+fn answer(alloc: Global, corpus: &Corpus, command: &PlainCommand<'_>) -> Result<Bytes, Refusal>
     ensures ok { IfOk result (HasText (plain_shown command.now) corpus.now) }
     ensures cause { IfErr result (TextCause (plain_shown command.now)) }
 {
@@ -126,13 +121,12 @@ pub fn plain<F: Files, O: Sink>(
     files: &mut F,
     out: &mut O,
 ) -> Result<(), Refusal>
-    ensures {
-        let was = outside
-            (files_state (F.held files.old) (F.faults files.old) (F.last_failed files.old))
-            (sink_state (O.put_so_far out.old) (O.faults out.old)) in
+    ensures { let was = outside
+        (files_state (F.held files.old) (F.faults files.old) (F.last_failed files.old))
+        (sink_state (O.put_so_far out.old) (O.faults out.old)) in
         let is = outside
-            (files_state (F.held files.new) (F.faults files.new) (F.last_failed files.new))
-            (sink_state (O.put_so_far out.new) (O.faults out.new)) in
+        (files_state (F.held files.new) (F.faults files.new) (F.last_failed files.new))
+        (sink_state (O.put_so_far out.new) (O.faults out.new)) in
         Ended (SpokenPlain (plain_shown command.now)) was is result }
 {
     let corpus = read_documents(alloc, command.corpus, files)?;

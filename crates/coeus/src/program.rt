@@ -20,13 +20,12 @@ fn execute<F: Files, O: Sink>(
     files: &mut F,
     out: &mut O,
 ) -> Result<(), Refusal>
-    ensures {
-        let was = outside
-            (files_state (F.held files.old) (F.faults files.old) (F.last_failed files.old))
-            (sink_state (O.put_so_far out.old) (O.faults out.old)) in
+    ensures { let was = outside
+        (files_state (F.held files.old) (F.faults files.old) (F.last_failed files.old))
+        (sink_state (O.put_so_far out.old) (O.faults out.old)) in
         let is = outside
-            (files_state (F.held files.new) (F.faults files.new) (F.last_failed files.new))
-            (sink_state (O.put_so_far out.new) (O.faults out.new)) in
+        (files_state (F.held files.new) (F.faults files.new) (F.last_failed files.new))
+        (sink_state (O.put_so_far out.new) (O.faults out.new)) in
         Ended (command_shown command.now) was is result }
 {
     match command {
@@ -47,13 +46,12 @@ pub fn run<T: Threads + Sync, F: Files, O: Sink, E: Sink>(
     out: &mut O,
     err: &mut E,
 ) -> u8
-    ensures {
-        let was = outside
-            (files_state (F.held files.old) (F.faults files.old) (F.last_failed files.old))
-            (sink_state (O.put_so_far out.old) (O.faults out.old)) in
+    ensures { let was = outside
+        (files_state (F.held files.old) (F.faults files.old) (F.last_failed files.old))
+        (sink_state (O.put_so_far out.old) (O.faults out.old)) in
         let is = outside
-            (files_state (F.held files.new) (F.faults files.new) (F.last_failed files.new))
-            (sink_state (O.put_so_far out.new) (O.faults out.new)) in
+        (files_state (F.held files.new) (F.faults files.new) (F.last_failed files.new))
+        (sink_state (O.put_so_far out.new) (O.faults out.new)) in
         let err_was = sink_state (E.put_so_far err.old) (E.faults err.old) in
         let err_is = sink_state (E.put_so_far err.new) (E.faults err.new) in
         Ran (map string_bytes words.now) was is err_was err_is result }

@@ -36,13 +36,12 @@ pub fn import<F: Files, O: Sink>(
     files: &mut F,
     out: &mut O,
 ) -> Result<(), Refusal>
-    ensures {
-        let was = outside
-            (files_state (F.held files.old) (F.faults files.old) (F.last_failed files.old))
-            (sink_state (O.put_so_far out.old) (O.faults out.old)) in
+    ensures { let was = outside
+        (files_state (F.held files.old) (F.faults files.old) (F.last_failed files.old))
+        (sink_state (O.put_so_far out.old) (O.faults out.old)) in
         let is = outside
-            (files_state (F.held files.new) (F.faults files.new) (F.last_failed files.new))
-            (sink_state (O.put_so_far out.new) (O.faults out.new)) in
+        (files_state (F.held files.new) (F.faults files.new) (F.last_failed files.new))
+        (sink_state (O.put_so_far out.new) (O.faults out.new)) in
         Ended (SpokenImport (import_shown command.now)) was is result }
 {
     let corpus = read_documents(alloc, command.corpus, files)?;

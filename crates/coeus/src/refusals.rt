@@ -77,10 +77,9 @@ impl Refusal {
 // Puts parts on the error output, up to the first that fails.
 fn put_parts<E: Sink>(parts: &[&str], err: &mut E)
     ensures later { E.faults err.old ≤ E.faults err.new }
-    ensures says {
-        ¬ (Rose (E.faults err.old) (E.faults err.new)) →
+    ensures says { ¬ (Rose (E.faults err.old) (E.faults err.new)) →
         TookWhole (E.put_so_far err.old) (E.put_so_far err.new)
-            (flat (map (λ part. part.now) parts.now)) }
+        (flat (map (λ part. part.now) parts.now)) }
 {
     for part in parts {
         if err.put(part.as_bytes()).is_err() {
@@ -91,8 +90,7 @@ fn put_parts<E: Sink>(parts: &[&str], err: &mut E)
 
 // Says a text as a line on the error output. Its failure is let go.
 fn say<E: Sink>(parts: &[&str], err: &mut E)
-    ensures {
-        let was = sink_state (E.put_so_far err.old) (E.faults err.old) in
+    ensures { let was = sink_state (E.put_so_far err.old) (E.faults err.old) in
         let is = sink_state (E.put_so_far err.new) (E.faults err.new) in
         Says (flat (map (λ part. part.now) parts.now)) was is }
 {
@@ -103,8 +101,7 @@ fn say<E: Sink>(parts: &[&str], err: &mut E)
 
 // Says a text with a number in it.
 fn say_number<E: Sink>(before: &str, number: u128, after: &str, err: &mut E)
-    ensures {
-        let was = sink_state (E.put_so_far err.old) (E.faults err.old) in
+    ensures { let was = sink_state (E.put_so_far err.old) (E.faults err.old) in
         let is = sink_state (E.put_so_far err.new) (E.faults err.new) in
         Says (with_number before.now number after.now) was is }
 {
@@ -114,8 +111,7 @@ fn say_number<E: Sink>(before: &str, number: u128, after: &str, err: &mut E)
 
 // Says at which line a file isn't a corpus.
 fn say_line<E: Sink>(line: u64, what: &str, err: &mut E)
-    ensures {
-        let was = sink_state (E.put_so_far err.old) (E.faults err.old) in
+    ensures { let was = sink_state (E.put_so_far err.old) (E.faults err.old) in
         let is = sink_state (E.put_so_far err.new) (E.faults err.new) in
         Says (line_text line what.now) was is }
 {
@@ -125,8 +121,7 @@ fn say_line<E: Sink>(line: u64, what: &str, err: &mut E)
 
 // Says why a file isn't a corpus.
 fn say_corpus<E: Sink>(fault: CorpusFault, err: &mut E)
-    ensures {
-        let was = sink_state (E.put_so_far err.old) (E.faults err.old) in
+    ensures { let was = sink_state (E.put_so_far err.old) (E.faults err.old) in
         let is = sink_state (E.put_so_far err.new) (E.faults err.new) in
         Says (corpus_text fault) was is }
 {
@@ -144,8 +139,7 @@ fn say_corpus<E: Sink>(fault: CorpusFault, err: &mut E)
 
 // Says by which comparison a shape fails the test.
 fn say_test<E: Sink>(fault: TestFault, err: &mut E)
-    ensures {
-        let was = sink_state (E.put_so_far err.old) (E.faults err.old) in
+    ensures { let was = sink_state (E.put_so_far err.old) (E.faults err.old) in
         let is = sink_state (E.put_so_far err.new) (E.faults err.new) in
         Says (test_text fault) was is }
 {
@@ -177,8 +171,7 @@ fn setting_text(which: SettingName) -> &'static str
 
 // Says why a corpus isn't published.
 fn say_publishing<E: Sink>(fault: PublishFault, err: &mut E)
-    ensures {
-        let was = sink_state (E.put_so_far err.old) (E.faults err.old) in
+    ensures { let was = sink_state (E.put_so_far err.old) (E.faults err.old) in
         let is = sink_state (E.put_so_far err.new) (E.faults err.new) in
         Says (publishing_text fault) was is }
 {
@@ -212,8 +205,7 @@ fn name_of(kind: FileKind, words: &[String]) -> &str
 /// Says a refusal on the error output, and gives its status. It takes no memory.
 pub fn tell<E: Sink>(words: &[String], refusal: Refusal, err: &mut E) -> u8
     ensures status { result ≡ status_of refusal }
-    ensures says {
-        let was = sink_state (E.put_so_far err.old) (E.faults err.old) in
+    ensures says { let was = sink_state (E.put_so_far err.old) (E.faults err.old) in
         let is = sink_state (E.put_so_far err.new) (E.faults err.new) in
         Says (text_of (map string_bytes words.now) refusal) was is }
 {

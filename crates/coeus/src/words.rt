@@ -4,9 +4,7 @@ ghost use Rattle.coeus.specs.Words.{plain_words, import_words, settings_of, shap
 ghost use Rattle.coeus.specs.Words.{spoken, joined};
 ghost use Rattle.coeus.specs.Commands.{command_shown, plain_shown, import_shown, rest_shown};
 
-use crate::limits::{
-    DEFAULT_CHUNKS, DEFAULT_DEGREE, DEFAULT_HITS, DEFAULT_SALT, DEFAULT_TERMS,
-};
+use crate::limits::{DEFAULT_CHUNKS, DEFAULT_DEGREE, DEFAULT_HITS, DEFAULT_SALT, DEFAULT_TERMS};
 use crate::options::{OptionsAndQuery, read_options, read_short};
 use co_library::Settings;
 use co_noise::Shape;

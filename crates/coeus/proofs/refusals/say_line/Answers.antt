@@ -8,7 +8,7 @@ use Rattle.coeus.proofs.refusals.say_line.Goals as goal
 pub returns : goal.returns
 returns g c =
     says_as _ _
-        (sink_state (g.E.Sink.put_so_far c.args.err.now) (g.E.Sink.faults c.args.err.now))
-        (sink_state (g.E.Sink.put_so_far c.say.new.err) (g.E.Sink.faults c.say.new.err))
-        (ap (λ (digits : List ℕ). flat (codes "corpus line " ∷ digits ∷ codes ": " ∷ c.args.what.now ∷ [])) c.format.ensures.text)
-        c.say.ensures
+    (sink_state (g.E.Sink.put_so_far c.args.err.now) (g.E.Sink.faults c.args.err.now))
+    (sink_state (g.E.Sink.put_so_far c.say.new.err) (g.E.Sink.faults c.say.new.err))
+    (ap (λ (digits : List ℕ). flat (codes "corpus line " ∷ digits ∷ codes ": " ∷ c.args.what.now ∷ [])) c.format.ensures.text)
+    c.say.ensures

@@ -1,5 +1,4 @@
-use Rattle.std.proofs.Common.{◌≡◌, ◌+◌, ◌*◌, ◌<◌, ◌≤◌, ◌^◌, ℕ, List, length, get_or, refl, sym, ap, subst, ◌∙◌, arith}
-use Rattle.co_math.specs.Coefficients.{AreBelow}
+use Rattle.std.proofs.Common.{◌≡◌, ◌+◌, ◌*◌, ◌^◌, ℕ, List, length, get_or, sym, ap, subst, ◌∙◌, arith}
 use Rattle.co_transform.specs.Trees.{AreWithin}
 use Rattle.co_ring.specs.Moduli.{value_of}
 use Rattle.co_ring.specs.Spectra.{Values, in_order}

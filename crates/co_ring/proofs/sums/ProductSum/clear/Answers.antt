@@ -1,4 +1,4 @@
-use Rattle.std.proofs.Common.{◌≡◌, ◌+◌, ◌*◌, ◌<◌, ◌≤◌, ◌^◌, ℕ, List, length, get_or, refl, sym, ap, subst, ◌∙◌, arith}
+use Rattle.std.proofs.Common.{ℕ, List, length, get_or, refl, sym, ap, subst, ◌∙◌, arith}
 use Rattle.co_math.specs.Exponents.{place}
 use Rattle.co_ring.specs.Spectra.{in_order}
 use Rattle.co_ring.specs.Product_sums.{Sums, AreSumLeaves}
