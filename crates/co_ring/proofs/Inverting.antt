@@ -1,12 +1,11 @@
 -- From the values at all the roots back to the coefficients.
-use Rattle.std.proofs.Common.{◌≡◌, ℕ, zero, suc, ◌+◌, ◌*◌, ◌-◌, ◌/◌, ◌%◌, ◌<◌, ◌≤◌, ◌^◌, ◌≢◌, refl, sym, ap, subst, ◌∙◌, ⊎_elim, ◌⊎◌, inl, inr, arith, ℤ, pos, negsuc, ◌+ℤ◌, ◌*ℤ◌, List, length, get_or}
+use Rattle.std.proofs.Common.{◌≡◌, ℕ, zero, suc, ◌+◌, ◌*◌, ◌-◌, ◌/◌, ◌%◌, ◌<◌, ◌^◌, ◌≢◌, refl, sym, ap, subst, ◌∙◌, ⊎_elim, arith, ℤ, pos, negsuc, ◌+ℤ◌, ◌*ℤ◌, List, length, get_or}
 use Rattle.std.proofs.lemmas.Bool.{cases_eq, cases_lt}
-use lib.IntN.{neg_ℤ}
 use Rattle.co_math.specs.Residues.{Congruent}
 use Rattle.co_math.specs.Sums.{total}
 use Rattle.co_math.specs.Powers.{power}
 use Rattle.co_math.specs.Values.{value}
-use Rattle.co_math.proofs.Integers.{linear, expand, mul-one, one-mul, mul_assoc, mul_comm, mul-zero}
+use Rattle.co_math.proofs.Integers.{linear, expand, mul-one, mul-zero}
 use Rattle.co_math.proofs.Residues.{cong-refl, cong_from, cong-sym, cong-trans, cong-add, cong-mul, cong-total}
 use Rattle.co_math.proofs.Powers.{power-mul, power-add, power-times, power-congruent, power-one}
 use Rattle.co_math.proofs.Totals.{total-zero, total-suc, total-same, total-scale, total-swap}

@@ -1,5 +1,5 @@
 -- Sums of products in the order of the leaves, and in the order of k.
-use Rattle.std.proofs.Common.{◌≡◌, ℕ, ◌+◌, ◌*◌, ◌%◌, ◌<◌, ◌≤◌, ◌^◌, List, length, get_or, replicate, arith, refl, sym, ap, subst, ◌∙◌, ⊎_elim, ℤ, pos, negsuc, ◌+ℤ◌, ◌*ℤ◌}
+use Rattle.std.proofs.Common.{◌≡◌, ℕ, ◌+◌, ◌*◌, ◌%◌, ◌<◌, ◌^◌, List, length, get_or, replicate, arith, refl, sym, ap, subst, ◌∙◌, ⊎_elim, ℤ, pos, negsuc, ◌+ℤ◌, ◌*ℤ◌}
 use Rattle.std.proofs.lemmas.List.{length-replicate, get_or-replicate, get_or_past}
 use Rattle.std.proofs.lemmas.Bool.{cases_lt}
 use Rattle.std.proofs.lemmas.Nat.{mod_below}
@@ -11,8 +11,7 @@ use Rattle.co_math.proofs.Residues.{cong_from, cong-trans, cong-sym, cong-add, c
 use Rattle.co_math.proofs.Reduced.{remainder-is, residue_of}
 use Rattle.co_math.proofs.Evaluations.{value-product}
 use Rattle.co_math.specs.Exponents.{place}
-use Rattle.co_math.specs.Coefficients.{AreBelow}
-use Rattle.co_transform.specs.Trees.{AreWithin, HaveResidues}
+use Rattle.co_transform.specs.Trees.{HaveResidues}
 use Rattle.co_transform.specs.Gathered.{Gathered}
 use Rattle.co_transform.proofs.Reversals.{place-lt}
 use Rattle.co_ring.specs.declared.moduli.Modulus.{Modulus}

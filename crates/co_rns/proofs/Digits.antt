@@ -1,5 +1,5 @@
 -- The base of the digits as a power of 2.
-use Rattle.std.proofs.Common.{◌≡◌, ℕ, zero, suc, ◌+◌, ◌*◌, ◌^◌, refl, sym, ap, ◌∙◌, arith, ◌/◌, ◌%◌, ◌<◌, ◌≤◌, pos, List, length, get_or}
+use Rattle.std.proofs.Common.{◌≡◌, ℕ, zero, suc, ◌+◌, ◌*◌, ◌^◌, refl, sym, ap, ◌∙◌, arith, ◌/◌, ◌%◌, ◌<◌, ◌≤◌, pos, List, get_or}
 use Rattle.std.proofs.lemmas.Nat.{pow-add}
 use Rattle.std.proofs.lemmas.List.{ext_get_or}
 use Rattle.std.proofs.Math.Nat.{pow-suc, mod-lt}

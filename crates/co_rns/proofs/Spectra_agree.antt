@@ -1,8 +1,7 @@
 -- Values of polynomials that agree modulo m, and of sums of products.
-use Rattle.std.proofs.Common.{◌≡◌, ℕ, ◌+◌, ◌*◌, ◌<◌, refl, sym, ap, subst, ◌∙◌, arith, ℤ, pos, negsuc, List, length}
-use Rattle.co_math.specs.Residues.{residue, Congruent}
+use Rattle.std.proofs.Common.{◌≡◌, ℕ, ◌+◌, ◌*◌, ◌<◌, subst, ◌∙◌, arith, ℤ, pos, List}
 use Rattle.co_math.specs.Powers.{power, root}
-use Rattle.co_math.specs.Values.{value, value_at}
+use Rattle.co_math.specs.Values.{value_at}
 use Rattle.co_math.specs.Polynomials.{IsWrapped, plus, product}
 use Rattle.co_math.specs.Coefficients.{IsDegree}
 use Rattle.co_math.specs.Parameters.{first_modulus, second_modulus}
@@ -14,7 +13,7 @@ use Rattle.co_ring.specs.declared.moduli.Modulus.{Modulus}
 use Rattle.co_ring.specs.declared.moduli.Modulus.TheVariants.{First, Second}
 use Rattle.co_ring.specs.Moduli.{value_of}
 use Rattle.co_ring.proofs.Keeping.{value-positive}
-use Rattle.co_ring.specs.Spectra.{AreValues, AreAddedProducts}
+use Rattle.co_ring.specs.Spectra.{AreValues}
 use Rattle.co_ring.proofs.Rooted.{root_minus}
 use Rattle.co_ring.proofs.Orderings.{added_values}
 use Rattle.co_ring.proofs.Summing.{sums_none, sums_with, sums_reduced}

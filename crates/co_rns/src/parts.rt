@@ -16,8 +16,8 @@ use co_ring::{Degree, Modulus, Poly};
 use std::alloc::{AllocError, Global};
 
 /// floor(INVERSE_OF_FIRST * 2^64 / SECOND_MODULUS).
-const INVERSE_QUOTIENT: u64 =
-    (INVERSE_OF_FIRST as u128 * 18446744073709551616 / SECOND_MODULUS as u128) as u64;
+const INVERSE_QUOTIENT: u64 = (INVERSE_OF_FIRST as u128 * 18446744073709551616
+    / SECOND_MODULUS as u128) as u64;
 
 /// The number below q with these residues.
 #[inline]

@@ -1,5 +1,5 @@
 -- The slots among the values of a spectrum.
-use Rattle.std.proofs.Common.{◌≡◌, ℕ, ◌+◌, ◌*◌, ◌-◌, ◌%◌, ◌/◌, ◌<◌, ◌≤◌, ◌^◌, ◌≢◌, refl, sym, ap, subst, ◌∙◌, ⊎_elim, arith, ℤ, pos, ◌*ℤ◌, List, [], ◌∷◌, ◌++◌, length, get_or, set}
+use Rattle.std.proofs.Common.{◌≡◌, ℕ, ◌+◌, ◌*◌, ◌-◌, ◌/◌, ◌<◌, ◌≤◌, ◌^◌, ◌≢◌, refl, sym, ap, ◌∙◌, ⊎_elim, arith, ℤ, pos, ◌*ℤ◌, List, [], ◌∷◌, ◌++◌, length, get_or, set}
 use Rattle.std.proofs.lemmas.Bool.{cases_eq}
 use Rattle.std.proofs.lemmas.List.{length-set, get_or-set_other, get_or-set_same}
 use Rattle.std.proofs.lemmas.Grind.{elements}
@@ -15,9 +15,8 @@ use Rattle.co_math.specs.Parameters.{plain_modulus}
 use Rattle.co_math.proofs.Residues.{cong-neg, residue-same}
 use Rattle.co_math.proofs.Reduced.{residue_of}
 use Rattle.co_math.proofs.Degrees.{degree_positive}
-use Rattle.co_transform.proofs.Reversals.{place-lt, place-place}
+use Rattle.co_transform.proofs.Reversals.{place-place}
 use Rattle.co_ring.specs.Spectra.{AreValues}
-use Rattle.co_ring.proofs.Orderings.{same_levels}
 use Rattle.co_slots.specs.Slots.{exponent_of, slot, AreSlots, ArePlaces, AreScattered}
 use Rattle.co_slots.proofs.Exponents.{exponent-second, exponent-lt, exponent-odd, exponents_differ}
 

@@ -1,14 +1,14 @@
 -- From the values at all the roots the coefficients are known.
-use Rattle.std.proofs.Common.{◌≡◌, ◌≢◌, ℕ, suc, ◌+◌, ◌*◌, ◌-◌, ◌%◌, ◌/◌, ◌<◌, ◌≤◌, ◌^◌, refl, sym, ap, subst, ◌∙◌, ⊎_elim, arith, ℤ, pos, negsuc, ◌+ℤ◌, ◌-ℤ◌, ◌*ℤ◌}
+use Rattle.std.proofs.Common.{◌≡◌, ◌≢◌, ℕ, ◌+◌, ◌*◌, ◌-◌, ◌%◌, ◌/◌, ◌<◌, ◌^◌, refl, sym, ap, subst, ◌∙◌, ⊎_elim, arith, ℤ, pos, negsuc, ◌+ℤ◌, ◌-ℤ◌, ◌*ℤ◌}
 use Rattle.std.proofs.lemmas.Bool.{cases_lt, cases_eq}
 use Rattle.co_math.specs.Residues.{Congruent}
 use Rattle.co_math.specs.Sums.{total}
 use Rattle.co_math.specs.Powers.{power}
 use Rattle.co_math.specs.Values.{value}
 use Rattle.co_math.proofs.Integers.{linear, expand, mul-one, one-mul, mul_comm, mul-zero}
-use Rattle.co_math.proofs.Residues.{cong-refl, cong_from, cong-sym, cong-trans, cong-add, cong-mul, cong-total}
+use Rattle.co_math.proofs.Residues.{cong-refl, cong_from, cong-sym, cong-trans, cong-mul, cong-total}
 use Rattle.co_math.proofs.Powers.{power-mul, power-add, power-congruent, power-one}
-use Rattle.co_math.proofs.Totals.{total-same, total-scale, total-swap, total-permute, total-ones, Permutes}
+use Rattle.co_math.proofs.Totals.{total-same, total-scale, total-swap, total-permute, total-ones}
 use Rattle.co_math.proofs.Geometric.{orthogonal}
 use Rattle.co_math.proofs.Substitutions.{power-period}
 use Rattle.co_math.proofs.Pigeons.{permutes, place_of}

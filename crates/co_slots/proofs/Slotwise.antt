@@ -1,5 +1,5 @@
 -- Sums, products and substitutions of polynomials, slot by slot.
-use Rattle.std.proofs.Common.{◌≡◌, ℕ, ◌+◌, ◌*◌, ◌-◌, ◌%◌, ◌/◌, ◌<◌, ◌≤◌, ◌^◌, refl, sym, ap, subst, ◌∙◌, arith, ℤ, pos, negsuc, ◌+ℤ◌, ◌-ℤ◌, ◌*ℤ◌, List, length, get_or}
+use Rattle.std.proofs.Common.{◌≡◌, ℕ, ◌+◌, ◌*◌, ◌-◌, ◌%◌, ◌/◌, ◌<◌, refl, sym, ap, subst, ◌∙◌, arith, ℤ, pos, negsuc, ◌+ℤ◌, ◌-ℤ◌, ◌*ℤ◌, List, length, get_or}
 use Rattle.std.proofs.Math.Nat.{div-add-mod', mod-lt}
 use lib.IntN.{neg_ℤ}
 use Rattle.co_math.specs.Parameters.{plain_modulus}
@@ -8,7 +8,7 @@ use Rattle.co_math.specs.Powers.{power, root}
 use Rattle.co_math.specs.Polynomials.{IsWrapped, product, plus, minus, substituted}
 use Rattle.co_math.specs.Values.{value, value_at}
 use Rattle.co_math.specs.Coefficients.{coefficients, AreBelow, AreResidues, IsDegree, IsSubstituted}
-use Rattle.co_math.proofs.Integers.{linear, expand, mul-neg, mul-one, one-mul}
+use Rattle.co_math.proofs.Integers.{linear, expand, mul-one}
 use Rattle.co_math.proofs.Residues.{cong-refl, cong_from, cong-sym, cong-trans, cong-add, cong-neg, cong-mul, cong-total, residue-is, residue-lt, residue-same, residue_small}
 use Rattle.co_math.proofs.Reduced.{remainder-is, residue_of}
 use Rattle.co_math.proofs.Powers.{power-add, power-mul, power-congruent, power-one}

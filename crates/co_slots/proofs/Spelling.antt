@@ -1,9 +1,9 @@
 -- Payloads so far.
-use Rattle.std.proofs.Common.{◌≡◌, ℕ, ◌+◌, ◌*◌, ◌-◌, ◌%◌, ◌/◌, ◌<◌, ◌≤◌, ◌≢◌, refl, sym, ap, subst, ◌∙◌, ⊎_elim, arith, List, [], ◌∷◌, ◌++◌, length, get_or, set}
+use Rattle.std.proofs.Common.{◌≡◌, ℕ, ◌+◌, ◌*◌, ◌%◌, ◌/◌, ◌<◌, ◌≤◌, ◌≢◌, sym, ap, subst, ◌∙◌, ⊎_elim, arith, List, [], ◌∷◌, ◌++◌, length, get_or}
 use Rattle.std.proofs.lemmas.Grind.{elements}
 use Rattle.std.proofs.lemmas.List.{ext_get_or}
-use Rattle.std.proofs.lemmas.Bool.{cases_eq, cases_lt}
-use Rattle.co_slots.specs.Payloads.{IsPayload, IsFirstNoByte}
+use Rattle.std.proofs.lemmas.Bool.{cases_lt}
+use Rattle.co_slots.specs.Payloads.{IsPayload}
 
 pub record IsPayloadSoFar (i : ℕ) (bytes coeffs : List ℕ) : Type 0 where
   pub each : (k : ℕ) → k < i → get_or coeffs k 0 ≡ 256 * get_or bytes (2 * k) 0 + get_or bytes (2 * k + 1) 0

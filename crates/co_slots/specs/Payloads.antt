@@ -1,5 +1,5 @@
 -- Payloads: two bytes a coefficient.
-use Rattle.std.specs.Prelude.{ℕ, ◌+◌, ◌*◌, ◌<◌, ◌≤◌, ◌≢◌, ◌≡◌, List, length, slice_index}
+use Rattle.std.specs.Prelude.{ℕ, ◌+◌, ◌*◌, ◌<◌, ◌≢◌, ◌≡◌, List, length, slice_index}
 use Rattle.co_math.specs.Coefficients.{AreBelow}
 
 -- coefficient k is 256 * byte 2k + byte 2k + 1

@@ -2,7 +2,7 @@
 use Rattle.std.proofs.Common.{◌≡◌, ℕ, ◌+◌, ◌-◌, ◌*◌, ◌/◌, ◌%◌, ◌^◌, ◌<◌, ◌≤◌, ap, ◌∙◌, arith, sym, ⊎_elim}
 use Rattle.std.proofs.lemmas.Bool.{cases_lt}
 use Rattle.std.proofs.lemmas.Nat.{mul-mod_second}
-use Rattle.std.proofs.Math.Nat.{add-mul-mod_self_right, mod-eq_of_lt}
+use Rattle.std.proofs.Math.Nat.{add-mul-mod_self_right}
 use Rattle.co_transform.proofs.Shoup.{sum_mod, low_mod, high_mod}
 
 pub wide_mod : (x h l high low fold q : ℕ) → h ≡ x / 2 ^ 64 → l ≡ x % 2 ^ 64 → fold ≡ 2 ^ 64 % q → high % q ≡ h * fold % q → low % q ≡ l * 1 % q → (high + low) % q ≡ x % q
@@ -16,5 +16,5 @@ pub four_mod : (x y r q : ℕ) → x < 4 * q → (x < 2 * q → y ≡ x) → (2 
 four_mod x y r q l a b c d =
     let small : y < 2 * q = ⊎_elim (λ u. omega (arith, a u, u)) (λ u. omega (arith, b u, l, u)) (cases_lt x (2 * q)) in
     let same : y % q ≡ x % q = ⊎_elim (λ u. ap (λ k. k % q) (a u))
-        (λ u. let whole : x ≡ y + 2 * q = omega (arith, b u, u) in sym (ap (λ k. k % q) whole ∙ add-mul-mod_self_right y 2 q)) (cases_lt x (2 * q)) in
+    (λ u. let whole : x ≡ y + 2 * q = omega (arith, b u, u) in sym (ap (λ k. k % q) whole ∙ add-mul-mod_self_right y 2 q)) (cases_lt x (2 * q)) in
     ⊎_elim (λ u. c u ∙ low_mod y x q u same) (λ u. d u ∙ high_mod y x q u small same) (cases_lt y q)

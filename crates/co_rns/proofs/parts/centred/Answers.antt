@@ -2,7 +2,6 @@ use Rattle.std.proofs.Common.{ℕ, List, ◌+◌, ◌<◌, ◌∙◌, length, ge
 use Rattle.co_math.specs.Residues.{residue}
 use Rattle.co_math.specs.Meanings.{centred}
 use Rattle.co_math.specs.Parameters.{plain_modulus}
-use Rattle.co_math.specs.Coefficients.{IsDegree}
 use Rattle.co_math.proofs.Residues.{residue-lt}
 use Rattle.co_ring.specs.Moduli.{value_of}
 use Rattle.co_ring.specs.Polynomials.{Polynomial, IsPoly}

@@ -1,4 +1,4 @@
-use Rattle.std.proofs.Common.{sym, ◌∙◌, arith, length}
+use Rattle.std.proofs.Common.{sym, ◌∙◌, arith}
 use Rattle.std.proofs.lemmas.List.{ext_get_or}
 use Rattle.co_rns.specs.Residue_pairs.{all_composed}
 use Rattle.co_rns.proofs.Composing.{length-all_composed}

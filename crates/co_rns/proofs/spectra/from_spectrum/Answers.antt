@@ -49,7 +49,7 @@ returns-clause-values c =
     let a = c.inverse.new.into in
     let b = c.inverse-2.new.into in
     let pair = parts_pair a b (c.inverse.ensures.modulus ∙ c.tables.invariant.first_modulus_is) (c.inverse-2.ensures.modulus ∙ c.tables.invariant.second_modulus_is)
-        (c.inverse-2.ensures.degree ∙ c.tables.invariant.one_degree ∙ sym c.inverse.ensures.degree) c.degree.ensures.valid c.degree-2.ensures.valid in
+    (c.inverse-2.ensures.degree ∙ c.tables.invariant.one_degree ∙ sym c.inverse.ensures.degree) c.degree.ensures.valid c.degree-2.ensures.valid in
     let s = split_of a b pair refl in
     let f = coefficients (all_composed a.coeffs b.coeffs) in
     let x = part_values t.first.modulus First t.first.degree n (coefficients a.coeffs) f c.values.inside.first.values c.tables.invariant.first_modulus_is c.tables.view_is s.first_part c.inverse.ensures.values.values in

@@ -1,4 +1,4 @@
-use Rattle.std.proofs.Common.{ℕ, ◌<◌, sym, ap, subst, ◌∙◌, arith}
+use Rattle.std.proofs.Common.{ℕ, sym, ap, subst, ◌∙◌, arith}
 use Rattle.co_math.specs.Coefficients.{coefficients, AreBelow}
 use Rattle.co_math.specs.Parameters.{first_modulus, second_modulus}
 use Rattle.co_ring.specs.Moduli.{value_of}

@@ -2,7 +2,7 @@ use Rattle.std.proofs.Common.{ℕ, List, ◌/◌, ◌+◌, sym, subst, ap, ◌�
 use Rattle.co_math.specs.Exponents.{place}
 use Rattle.co_ring.proofs.Orderings.{same_levels}
 use Rattle.co_slots.specs.Slots.{ArePlaces, exponent_of}
-use Rattle.co_slots.proofs.Placing.{more_places, no_places}
+use Rattle.co_slots.proofs.Placing.{more_places}
 use Rattle.co_slots.proofs.slots.places.Goals as goal
 
 pub loop-p-preserved : goal.loop-p-preserved

@@ -1,5 +1,4 @@
-use Rattle.std.proofs.Common.{◌≡◌, ◌<◌, ◌^◌, ◌/◌, ℕ, length, get_or, sym, ap, subst, ◌∙◌, arith}
-use Rattle.co_math.specs.Coefficients.{IsDegree}
+use Rattle.std.proofs.Common.{◌<◌, ◌/◌, length, get_or, sym, ap, subst, ◌∙◌, arith}
 use Rattle.co_transform.proofs.Reversals.{place-lt}
 use Rattle.co_ring.specs.Moduli.{value_of}
 use Rattle.co_ring.specs.Spectra.{Values}

@@ -1,6 +1,6 @@
-use Rattle.std.proofs.Common.{◌≡◌, ◌+◌, ◌*◌, ◌≤◌, ◌%◌, ◌^◌, ℕ, length, get_or, ◌++◌, arith, sym, subst}
+use Rattle.std.proofs.Common.{◌≡◌, ◌+◌, ◌*◌, ◌≤◌, ◌%◌, ℕ, length, get_or, ◌++◌, arith, sym, subst}
 use Rattle.std.proofs.Math.Nat.{mul-mod_left}
-use Rattle.co_transform.specs.Trees.{AreWithin, Interpolates, IsBlock}
+use Rattle.co_transform.specs.Trees.{AreWithin}
 use Rattle.co_transform.proofs.Joins.{left_block, right_block, node_below, both_within}
 use Rattle.co_transform.proofs.Returns.{joined_back, part_within, sums_within, differences_within}
 use Rattle.co_transform.proofs.backwards.back_eight.Goals as goal

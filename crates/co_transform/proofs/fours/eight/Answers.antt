@@ -1,5 +1,4 @@
-use Rattle.std.proofs.Common.{◌≡◌, ◌+◌, ◌*◌, ◌<◌, ◌≤◌, ◌^◌, ℕ, length, get_or, ◌++◌, arith, ◌∙◌}
-use Rattle.co_transform.specs.Trees.{AreWithin, HaveValues, IsBlock}
+use Rattle.std.proofs.Common.{length, arith, ◌∙◌}
 use Rattle.co_transform.proofs.Joins.{left_block, right_block, node_below, joined, both_within, layer_within, layer_within_high}
 use Rattle.co_transform.proofs.fours.eight.Goals as goal
 

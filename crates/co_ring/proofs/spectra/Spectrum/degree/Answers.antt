@@ -1,4 +1,4 @@
-use Rattle.std.proofs.Common.{◌≡◌, ℕ, List, ◌<◌, length, sym, ap, subst, ◌∙◌, arith}
+use Rattle.std.proofs.Common.{length, ap, subst, arith}
 use Rattle.co_math.specs.Coefficients.{AreBelow}
 use Rattle.co_ring.specs.Moduli.{value_of}
 use Rattle.co_ring.specs.Spectra.{Values}

@@ -1,8 +1,8 @@
-use Rattle.std.proofs.Common.{◌≡◌, ◌<◌, ◌^◌, ℕ, List, length, set, refl, sym, ap, subst, ◌∙◌, arith}
+use Rattle.std.proofs.Common.{◌≡◌, ◌<◌, ◌^◌, set, sym, ap, subst, ◌∙◌, arith}
 use Rattle.co_math.specs.Exponents.{place}
 use Rattle.co_transform.proofs.Reversals.{place-lt, place-place}
 use Rattle.co_ring.specs.Moduli.{value_of}
-use Rattle.co_ring.specs.Spectra.{Values, in_order, AreLeaves}
+use Rattle.co_ring.specs.Spectra.{Values, in_order}
 use Rattle.co_ring.proofs.Orderings.{in_order-set, set_leaves, view_length, same_levels}
 use Rattle.co_ring.proofs.spectra.Spectrum.set_leaf.Goals as goal
 

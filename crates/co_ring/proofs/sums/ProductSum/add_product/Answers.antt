@@ -1,5 +1,4 @@
-use Rattle.std.proofs.Common.{◌≡◌, ◌+◌, ◌*◌, ◌<◌, ◌≤◌, ◌^◌, ℕ, List, length, get_or, refl, sym, ap, subst, ◌∙◌, arith}
-use Rattle.co_math.specs.Coefficients.{AreBelow}
+use Rattle.std.proofs.Common.{◌≡◌, ◌+◌, ◌*◌, ◌^◌, ℕ, List, length, get_or, sym, ap, subst, ◌∙◌, arith}
 use Rattle.co_transform.specs.Trees.{AreWithin}
 use Rattle.co_ring.specs.Moduli.{value_of}
 use Rattle.co_ring.specs.Spectra.{Values, in_order}
@@ -91,10 +90,10 @@ returns c =
       one_modulus = ap (λ (s : Sums). s.modulus) c.self.view_is;
       one_more = ap (λ (s : Sums). s.count + 1) c.self.view_is;
       sums = record {
-          len = in_order-length l _ ∙ sym own_n;
-          each = λ k u.
-              ap (λ (zs : List ℕ). get_or (in_order l zs) k 0) back
-              ∙ gathered_in_order l (length c.deref_mut.result.now) c.deref_mut.result.now c.deref.result.now c.deref-2.result.now ys size c.gather.ensures.sums k (omega (arith, u, own_n))
-              ∙ (λ i. get_or (first i) k 0 + get_or (second i) k 0 * get_or (third i) k 0);
-        };
+        len = in_order-length l _ ∙ sym own_n;
+        each = λ k u.
+            ap (λ (zs : List ℕ). get_or (in_order l zs) k 0) back
+            ∙ gathered_in_order l (length c.deref_mut.result.now) c.deref_mut.result.now c.deref.result.now c.deref-2.result.now ys size c.gather.ensures.sums k (omega (arith, u, own_n))
+            ∙ (λ i. get_or (first i) k 0 + get_or (second i) k 0 * get_or (third i) k 0);
+      };
     }

@@ -1,4 +1,4 @@
-use Rattle.std.proofs.Common.{◌≡◌, ◌+◌, ◌*◌, ◌<◌, ◌≤◌, ◌^◌, ℕ, List, length, get_or, refl, sym, ap, subst, ◌∙◌, arith}
+use Rattle.std.proofs.Common.{◌≡◌, ◌^◌, ℕ, List, length, sym, ap, subst, ◌∙◌}
 use Rattle.co_ring.specs.Moduli.{value_of}
 use Rattle.co_ring.specs.Spectra.{Values, in_order, AreLeaves}
 use Rattle.co_ring.specs.Product_sums.{Sums, AreReduced}

@@ -1,4 +1,4 @@
-use Rattle.std.proofs.Common.{◌≡◌, ◌+◌, ◌*◌, ◌<◌, ◌≤◌, ◌^◌, ℕ, List, length, get_or, refl, sym, ap, ◌∙◌, arith}
+use Rattle.std.proofs.Common.{length, refl, sym, ap, ◌∙◌, arith}
 use Rattle.std.proofs.lemmas.List.{length-replicate}
 use Rattle.co_math.specs.Exponents.{place}
 use Rattle.co_ring.proofs.Orderings.{in_order-length, in_order-get}
@@ -28,7 +28,7 @@ returns c =
       one_modulus = refl;
       none = refl;
       zeros = record {
-          len = in_order-length l xs ∙ c.exponent.ensures.value;
-          each = λ k u. in_order-get l k xs (omega (arith, u, c.exponent.ensures.value)) ∙ none_is n xs is (place l k);
-        };
+        len = in_order-length l xs ∙ c.exponent.ensures.value;
+        each = λ k u. in_order-get l k xs (omega (arith, u, c.exponent.ensures.value)) ∙ none_is n xs is (place l k);
+      };
     }

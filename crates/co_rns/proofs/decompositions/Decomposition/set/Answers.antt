@@ -2,7 +2,6 @@ use Rattle.std.proofs.Common.{◌≡◌, ℕ, List, length, sym, ap, subst, ◌�
 use Rattle.co_ring.proofs.Keeping.{written_back}
 use Rattle.co_rns.specs.Residue_pairs.{all_composed}
 use Rattle.co_rns.specs.Pairs.{IsDecomposition}
-use Rattle.co_rns.proofs.Composing.{length-all_composed}
 use Rattle.co_rns.proofs.Wholes.{split_of, whole}
 use Rattle.co_rns.proofs.decompositions.Decomposition.set.Goals as goal
 

@@ -1,9 +1,8 @@
-use Rattle.std.proofs.Common.{◌≡◌, ℕ, List, length, ◌<◌, sym, ap, subst, ◌∙◌, arith}
+use Rattle.std.proofs.Common.{◌≡◌, ℕ, List, length, sym, ap, subst, ◌∙◌, arith}
 use Rattle.co_math.specs.Coefficients.{coefficients, AreBelow}
 use Rattle.co_math.specs.Parameters.{first_modulus, digit_base}
 use Rattle.co_ring.proofs.Keeping.{written_back}
 use Rattle.co_rns.specs.Residue_pairs.{AreDigits}
-use Rattle.co_rns.specs.Pairs.{IsDecomposition}
 use Rattle.co_rns.specs.Spectra.{IsSpectrumOf}
 use Rattle.co_rns.proofs.Digits.{digits_small, one_digits}
 use Rattle.co_rns.proofs.decompositions.Decomposition.to_spectrum.Goals as goal

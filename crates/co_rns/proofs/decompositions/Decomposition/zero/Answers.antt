@@ -1,4 +1,4 @@
-use Rattle.std.proofs.Common.{◌≡◌, ◌<◌, ℕ, List, length, get_or, sym, ap, subst, ◌∙◌, arith}
+use Rattle.std.proofs.Common.{◌≡◌, ◌<◌, ℕ, length, get_or, sym, ap, subst, ◌∙◌, arith}
 use Rattle.std.proofs.lemmas.List.{length-replicate, get_or-replicate}
 use Rattle.co_math.specs.Coefficients.{IsDegree}
 use Rattle.co_math.specs.Parameters.{q}
@@ -13,9 +13,9 @@ invariant_of-result c =
     let len : length xs ≡ n = ap length is ∙ length-replicate n 0 in
     record {
       whole = record {
-          degree = subst IsDegree (sym len) c.get-n.ensures.valid;
-          below = λ k u. subst (λ (r : ℕ). r < q) (sym (ap (λ ys. get_or ys k 0) is ∙ get_or-replicate n k 0 0 (omega (arith, u, len)))) (omega arith);
-        };
+        degree = subst IsDegree (sym len) c.get-n.ensures.valid;
+        below = λ k u. subst (λ (r : ℕ). r < q) (sym (ap (λ ys. get_or ys k 0) is ∙ get_or-replicate n k 0 0 (omega (arith, u, len)))) (omega arith);
+      };
       one_degree = ap length its ∙ length-replicate n 0 ∙ sym len;
     }
 
