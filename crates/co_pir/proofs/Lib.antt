@@ -1,4 +1,16 @@
-
+pub mod Inverse
+pub mod Rising
+pub mod Meant
+pub mod Moving
+pub mod Chosen
+pub mod Doubling
+pub mod Expanding
+pub mod Asked
+pub mod Halving
+pub mod Levelling
+pub mod Replied
+pub mod Gathering
+pub mod Revealing
 pub mod Retrieved
 pub mod Pieces
 pub mod Answering

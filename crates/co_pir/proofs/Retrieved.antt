@@ -14,36 +14,12 @@ use Rattle.co_pir.specs.Tables.{Table, IsTable, row_bytes}
 use Rattle.co_pir.specs.Meanings.{AsksRow, CanRetrieve, MeansBytes}
 use Rattle.co_pir.specs.Replies.{retrieved}
 use Rattle.co_math.proofs.Degrees.{degree-most}
-use Rattle.co_pir.proofs.Logarithms.{logarithm-is, first-logarithm}
+use Rattle.co_math.proofs.Logarithms.{log2_up-is}
 use Rattle.co_pir.proofs.Expanding.{length-expanded}
 use Rattle.co_pir.proofs.Asked.{CanExpand, expanded_means}
 use Rattle.co_pir.proofs.Gathering.{IsExpansion, row_means}
 
-record HasLogarithm (rows : ℕ) : Type 0 where
-  pub l : ℕ
-  pub is : IsLogarithm rows l
-
--- from a level below which none reaches the rows
-logarithm-from : (rows k more : ℕ) → ((j : ℕ) → j < k → 2 ^ j < rows) → rows ≤ 2 ^ (k + more) → HasLogarithm rows
-logarithm-from rows k zero before h = let e : k + 0 ≡ k = omega arith in record { l = k; is = first-logarithm rows k before (subst (λ (x : ℕ). rows ≤ 2 ^ x) e h) }
-logarithm-from rows k (suc more) before h = ⊎_elim
-    (λ u. let e : k + suc more ≡ (k + 1) + more = omega arith in
-    logarithm-from rows (k + 1) more
-    (λ j v. ⊎_elim (λ w. before j w) (λ w. let f : k ≡ j = omega arith in subst (λ (x : ℕ). 2 ^ x < rows) f u) (cases_lt j k))
-    (subst (λ (x : ℕ). rows ≤ 2 ^ x) e h))
-    (λ u. record { l = k; is = first-logarithm rows k before u })
-    (cases_lt (2 ^ k) rows)
-
--- the levels of an expansion are the logarithm of its rows
-pub log2_up-IsLogarithm : (rows : ℕ) → rows ≤ 65536 → IsLogarithm rows (log2_up rows)
-log2_up-IsLogarithm rows few =
-    let h = logarithm-from rows 0 16 (λ j l. absurd (omega arith)) few in
-    subst (λ (x : ℕ). IsLogarithm rows x) (logarithm-is rows h.l h.is few) h.is
-
 module _ (t : Table) (keys : Keys) (query : Ciphertext) (h : CanRetrieve t keys query) where
-  few : t.rows ≤ 65536
-  few = omega (arith, h.table.few, degree-most t.degree h.table.degree)
-
   expands : CanExpand keys query t.rows
   expands = record {
     whole = h.whole;
@@ -51,14 +27,14 @@ module _ (t : Table) (keys : Keys) (query : Ciphertext) (h : CanRetrieve t keys 
     degree = h.keys_of_degree ∙ sym h.query_degree;
     known = λ i l. let u : i < length keys.expansions = omega (arith, h.enough_keys) in All-get_or IsKey keys.expansions i no_key u h.key_set.expansions.each;
     enough = h.enough_keys;
-    logarithm = log2_up-IsLogarithm t.rows few;
+    logarithm = log2_up-is t.rows;
     few = omega (arith, h.table.few, h.query_degree);
   }
 
   expansion : IsExpansion keys query t.rows (expanded keys query (log2_up t.rows))
   expansion = record {
     items = refl;
-    enough = omega (arith, length-expanded keys query (log2_up t.rows), (log2_up-IsLogarithm t.rows few).reaches);
+    enough = omega (arith, length-expanded keys query (log2_up t.rows), (log2_up-is t.rows).reaches);
     means = expanded_means keys query t.rows expands;
   }
 
