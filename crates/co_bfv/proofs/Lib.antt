@@ -8,3 +8,4 @@ pub mod Combined
 pub mod Drawn
 pub mod Signed_lists
 pub mod Encrypted
+pub mod Totals

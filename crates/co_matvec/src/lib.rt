@@ -10,8 +10,13 @@
 #![tactic(auto)]
 
 mod diagonals;
+mod laws;
 mod scores;
+#[cfg(test)]
+mod tests;
+mod units;
 mod weights;
 
+pub use laws::{diagonals_have_polynomials, one_list, replies_mean_scores, replies_show_scores};
 pub use scores::score;
 pub use weights::Weights;

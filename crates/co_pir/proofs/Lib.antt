@@ -3,7 +3,6 @@ pub mod Rising
 pub mod Meant
 pub mod Moving
 pub mod Chosen
-pub mod Summed
 pub mod Doubling
 pub mod Expanding
 pub mod Asked
@@ -12,3 +11,6 @@ pub mod Levelling
 pub mod Replied
 pub mod Gathering
 pub mod Revealing
+pub mod Retrieved
+pub mod Pieces
+pub mod Answering

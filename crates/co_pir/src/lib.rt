@@ -10,12 +10,14 @@
 #![tactic(auto)]
 
 mod expansion;
+mod laws;
 mod opening;
 mod queries;
 mod replying;
 mod table;
 
 pub use expansion::expand;
+pub use laws::replies_mean_rows;
 pub use opening::open_reply;
 pub use queries::{levels, query_message};
 pub use replying::answer;

@@ -5,4 +5,7 @@ pub mod Columns
 pub mod Rotated
 pub mod Copies
 pub mod Keyed
-pub mod Growing
+pub mod Halving
+pub mod Always
+pub mod Crowns
+pub mod Lawful

@@ -1,5 +1,4 @@
-//! Worked values: the rotations of a drawn encryption by the digests of their bytes, and what they
-//! open to.
+//! All rotations of a drawn encryption, subtree by subtree, open to the slots turned by as much.
 
 ghost use Rattle.std.specs.Prelude.{◌≡◌, ◌<◌, length, IfOk};
 ghost use Rattle.co_bfv.specs.Ciphertexts.{ciphertext_degree};
@@ -14,9 +13,6 @@ use co_switch::{KeySet, Steps, make_keys};
 use rand_core::{Rng, SeedableRng};
 use rand_xoshiro::SplitMix64;
 use std::alloc::{AllocError, Global};
-
-mod rows;
-mod wire;
 
 const N: usize = 16;
 
@@ -43,23 +39,66 @@ fn numbered<R: Rng>(alloc: Global, secret: &Secret, rng: &mut R) -> Result<Ciphe
     encrypt(alloc, secret, &plain, rng)
 }
 
-/// Whether a rotation opens to these slots.
-fn opens(
-    alloc: Global,
-    secret: &Secret,
-    turned: &Cipher,
-    expected: &[u64; 16],
-) -> Result<bool, AllocError> {
-    if turned.degree() != secret.degree() {
-        return Ok(false);
+/// Whether slot (h, j) is 8 * h + (j + i) mod 8 + 1.
+fn are_turned(slots: &[u64], i: u32) -> bool {
+    for p in 0..slots.len() {
+        let expected = p / 8 * 8 + (p % 8 + i as usize) % 8 + 1;
+        if slots[p] != expected as u64 {
+            return false;
+        }
     }
-    let poly = decrypt(alloc, secret, turned)?;
-    let slots = decode_slots(alloc, &poly)?;
-    Ok(slots.as_slice() == expected.as_slice())
+    slots.len() == N
 }
 
-/// Whether the rotations of a drawn encryption have these digests and open to these slots.
-fn rotations_read<R: Rng>(alloc: Global, tested: &Tested, rng: &mut R) -> Result<bool, AllocError> {
+/// Opens the rotations that it is shown, which are to come in order.
+#[derive(Drop)]
+struct Opening<'s> {
+    alloc: Global,
+    secret: &'s Secret,
+    next: u32,
+    good: bool,
+}
+
+impl<'s> Visitor for Opening<'s> {
+    ghost use Rattle.std.specs.Prelude.{length};
+
+    ghost visits = { λ _ _ _ _. Unit {0} };
+
+    ghost degree = { λ o. length o.secret.now };
+
+    fn visit(&mut self, rotation: u32, cipher: &Cipher) -> Result<(), AllocError> {
+        let poly = decrypt(self.alloc, self.secret, cipher)?;
+        let slots = decode_slots(self.alloc, &poly)?;
+        if rotation != self.next || !are_turned(&slots, rotation) {
+            self.good = false;
+        }
+        self.next = rotation.saturating_add(1);
+        Ok(())
+    }
+}
+
+/// Shows a visitor all rotations, subtree by subtree.
+fn walk_all<V: Visitor, L>(
+    alloc: Global,
+    query: &Cipher,
+    keys: &KeySet,
+    visitor: &mut V,
+    steps: &mut Steps<L>,
+) -> Result<(), AllocError>
+    requires query { ciphertext_degree query.now ≡ keys_degree keys.now }
+    requires visitor { V.degree visitor.old ≡ keys_degree keys.now }
+{
+    let _ = keys.rotations();
+    let roots = crown(alloc, query, keys, steps)?;
+    let size = subtree_size(keys);
+    for r in 0..subtree_count(keys) {
+        walk_subtree(alloc, r * size, &roots[r as usize], keys, visitor, steps)?;
+    }
+    Ok(())
+}
+
+/// Whether a walk through the subtrees shows all rotations in order, each turned by its number.
+fn walks<R: Rng>(alloc: Global, tested: &Tested, rng: &mut R) -> Result<bool, AllocError> {
     let degree = Degree::of(tested.shape().degree() as usize);
     let secret = sample_secret(alloc, degree, rng)?;
     let keys = make_keys(alloc, tested, &secret, rng)?;
@@ -67,14 +106,14 @@ fn rotations_read<R: Rng>(alloc: Global, tested: &Tested, rng: &mut R) -> Result
         return Ok(false);
     }
     let query = numbered(alloc, &secret, rng)?;
-    let mut steps = Steps::begin();
-    let all = all_rotations(alloc, &query, &keys, &mut steps)?;
-    for (turned, (digest, slots)) in all.iter().zip(&rows::ROTATIONS) {
-        if !wire::cipher_reads(alloc, turned, digest)? || !opens(alloc, &secret, turned, slots)? {
-            return Ok(false);
-        }
-    }
-    Ok(all.len() == rows::ROTATIONS.len())
+    let mut opening = Opening {
+        alloc,
+        secret: &secret,
+        next: 0,
+        good: true,
+    };
+    walk_all(alloc, &query, &keys, &mut opening, &mut Steps::begin())?;
+    Ok(opening.good && opening.next == 8)
 }
 
 #[test]
@@ -84,22 +123,7 @@ fn rotations(rt: HostRuntime) -> Result<(), AllocError> {
         return Ok(());
     };
     let mut words = SplitMix64::seed_from_u64(9100);
-    assert!(rt; rotations_read(rt.alloc(), &tested, &mut words)?);
+    assert!(rt; walks(rt.alloc(), &tested, &mut words)?);
+    assert_eq!(rt; [parent(6), parent(1920)], [4, 1792]);
     Ok(())
-}
-
-#[test]
-fn parents(rt: HostRuntime) {
-    for (i, expected) in [
-        (1, 0),
-        (2, 0),
-        (3, 2),
-        (4, 0),
-        (5, 4),
-        (6, 4),
-        (7, 6),
-        (1920, 1792),
-    ] {
-        assert_eq!(rt; parent(i), expected);
-    }
 }

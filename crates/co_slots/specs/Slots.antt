@@ -13,9 +13,13 @@ use Rattle.co_ring.specs.Tables.{Shape}
 unfoldable pub exponent_of : ℕ → ℕ → ℕ
 exponent_of n p = if nat_lt p (n / 2) then residue (2 * n) (power (pos 3) p) else residue (2 * n) (neg_ℤ (power (pos 3) (p - n / 2)))
 
--- slot p, which is (0, p) or (1, p - n/2)
+-- slot p of a polynomial modulo X^n + 1, which is (0, p) or (1, p - n/2): its value at the power of the root that belongs to p
+abbrev pub slot_of : ℕ → (ℤ → ℤ) → ℕ → ℕ
+slot_of n f p = residue plain_modulus (value_at n f (power (pos (root plain_modulus n)) (exponent_of n p)))
+
+-- slot p of the polynomial with these coefficients
 unfoldable pub slot : List ℕ → ℕ → ℕ
-slot xs p = residue plain_modulus (value_at (length xs) (coefficients xs) (power (pos (root plain_modulus (length xs))) (exponent_of (length xs) p)))
+slot xs p = slot_of (length xs) (coefficients xs) p
 
 -- the slots of a polynomial, the first row before the second
 pub record AreSlots (coeffs slots : List ℕ) : Type 0 where

@@ -17,7 +17,7 @@ use Rattle.co_math.proofs.Agreements.{residues_for, wrapped_agree}
 use Rattle.co_math.proofs.Substitutions.{wrapped_period, substituted-IsWrapped}
 use Rattle.co_rns.specs.Residue_pairs.{AreDigits}
 use Rattle.co_math.proofs.Degrees.{degree_positive}
-use Rattle.co_math.proofs.Residue_lists.{residues_of-are, residues_of-is, length-residues_of}
+use Rattle.co_math.proofs.Residue_lists.{residues_of-are, residues_of-is, residues_of-same, length-residues_of}
 use Rattle.co_bfv.specs.Ciphertexts.{Ciphertext, IsCiphertext, ciphertext_degree}
 use Rattle.co_switch.specs.Keys.{Key, part}
 use Rattle.co_switch.specs.Switches.{digit_polynomial, digit_sum, carried, switched}

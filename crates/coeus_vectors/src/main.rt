@@ -32,6 +32,7 @@ use cases::Case;
 use serde_json::Value;
 use std::alloc::Global;
 use std::fs;
+use std::thread::Threads;
 
 /// The layers, lowest first.
 const LAYERS: [&str; 14] = [
@@ -39,7 +40,13 @@ const LAYERS: [&str; 14] = [
     "tfidf", "pack", "library",
 ];
 
-fn line_of(alloc: Global, layer: &str, call: &str, case: Case) -> Result<String, Error> {
+fn line_of<R: Threads + Sync>(
+    rt: &R,
+    alloc: Global,
+    layer: &str,
+    call: &str,
+    case: Case,
+) -> Result<String, Error> {
     match layer {
         "ring" => ring::line(alloc, call, case),
         "rns" => rns::line(alloc, call, case),
@@ -47,8 +54,8 @@ fn line_of(alloc: Global, layer: &str, call: &str, case: Case) -> Result<String,
         "noise" => noise::line(alloc, call, case),
         "bfv" | "switch" => streams::line(alloc, layer, call, case),
         "rot" => rot::line(alloc, call, case),
-        "matvec" => matvec::line(alloc, call, case),
-        "pir" => pir::line(alloc, call, case),
+        "matvec" => matvec::line(rt, alloc, call, case),
+        "pir" => pir::line(rt, alloc, call, case),
         "bucket" => bucket::line(alloc, call, case),
         "text" => text::line(alloc, call, case),
         "tfidf" => tfidf::line(alloc, call, case),
@@ -69,7 +76,7 @@ fn run(rt: &HostRuntime, layer: &str) -> Result<(), Error> {
     for (number, fields) in cases.iter().enumerate() {
         let case = Case::new(fields);
         let call = case.text("call");
-        let line = line_of(rt.alloc(), layer, call, case)?;
+        let line = line_of(rt, rt.alloc(), layer, call, case)?;
         println!(rt; "{layer} {number} {call}{line}")?;
     }
     Ok(())

@@ -20,12 +20,18 @@ use co_switch::{Steps, make_keys};
 use rand_core::{Rng, SeedableRng};
 use rand_xoshiro::SplitMix64;
 use std::alloc::{AllocError, Global};
+use std::thread::Threads;
 
-pub fn line(alloc: Global, call: &str, case: Case) -> Result<String, Error> {
+pub fn line<R: Threads + Sync>(
+    rt: &R,
+    alloc: Global,
+    call: &str,
+    case: Case,
+) -> Result<String, Error> {
     let mut line = String::new(alloc);
     match call {
-        "score" => put_scores(alloc, &mut line, case, true)?,
-        "slots" => put_scores(alloc, &mut line, case, false)?,
+        "score" => put_scores(rt, alloc, &mut line, case, true)?,
+        "slots" => put_scores(rt, alloc, &mut line, case, false)?,
         _ => bail!("no such call"),
     }
     Ok(line)
@@ -149,7 +155,8 @@ fn queries<R: Rng>(
 }
 
 /// The slots that the replies open to, behind the digests of query and replies where they are known.
-fn put_scores(
+fn put_scores<R: Threads + Sync>(
+    rt: &R,
     alloc: Global,
     line: &mut String,
     case: Case,
@@ -170,7 +177,7 @@ fn put_scores(
     let workers = case.number("workers").clamp(1, 64);
     let mut steps = Steps::begin();
     let replies = score(
-        alloc, &weights, &keys, &query, workers, &OpenGate, &mut steps,
+        rt, alloc, &weights, &keys, &query, workers, &OpenGate, &mut steps,
     )?;
     if with_digests {
         put_ciphers(alloc, line, &query)?;

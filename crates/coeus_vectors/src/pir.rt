@@ -19,12 +19,18 @@ use co_switch::{KeySet, Steps, make_keys};
 use rand_core::SeedableRng;
 use rand_xoshiro::SplitMix64;
 use std::alloc::Global;
+use std::thread::Threads;
 
-pub fn line(alloc: Global, call: &str, case: Case) -> Result<String, Error> {
+pub fn line<R: Threads + Sync>(
+    rt: &R,
+    alloc: Global,
+    call: &str,
+    case: Case,
+) -> Result<String, Error> {
     let mut line = String::new(alloc);
     match call {
         "query" => put_query(alloc, &mut line, case)?,
-        "retrieve" => put_retrieval(alloc, &mut line, case)?,
+        "retrieve" => put_retrieval(rt, alloc, &mut line, case)?,
         "open" => put_opened_reply(alloc, &mut line, case)?,
         _ => bail!("no such call"),
     }
@@ -62,7 +68,12 @@ fn suffices(keys: &KeySet, degree: usize, rows: u32) -> bool
 
 /// The digests of the query and of the ciphertexts that it expands to, what these open to, the
 /// digest of the reply, and the bytes that it opens to.
-fn put_retrieval(alloc: Global, line: &mut String, case: Case) -> Result<(), Error> {
+fn put_retrieval<R: Threads + Sync>(
+    rt: &R,
+    alloc: Global,
+    line: &mut String,
+    case: Case,
+) -> Result<(), Error> {
     let tested = tested(case)?;
     let degree = Degree::of(tested.shape().degree() as usize);
     let rows = case.number("rows");
@@ -76,7 +87,7 @@ fn put_retrieval(alloc: Global, line: &mut String, case: Case) -> Result<(), Err
     let message = query_message(alloc, degree, rows, row)?;
     let query = encrypt(alloc, &secret, &message, &mut words)?;
     put_expansion(alloc, line, rows, &secret, &keys, &query)?;
-    put_reply(alloc, line, case, &secret, &keys, &query)?;
+    put_reply(rt, alloc, line, case, &secret, &keys, &query)?;
     put_ciphers(alloc, line, &[query])?;
     Ok(())
 }
@@ -106,7 +117,8 @@ fn put_expansion(
     Ok(())
 }
 
-fn put_reply(
+fn put_reply<R: Threads + Sync>(
+    rt: &R,
     alloc: Global,
     line: &mut String,
     case: Case,
@@ -126,11 +138,12 @@ fn put_reply(
     }
     let table = Rows::new(alloc, Degree::of(n), rows, chunks, &bytes)?;
     let reply = answer(
+        rt,
         alloc,
         &table,
         keys,
         query,
-        1,
+        2,
         &OpenGate,
         &mut Steps::begin(),
     )?;

@@ -1,18 +1,22 @@
 //! Rotations of a ciphertext.
 
+ghost use Rattle.std.specs.Prelude.{◌≡◌};
+ghost use Rattle.co_bfv.specs.Ciphertexts.{ciphertext_degree};
+ghost use Rattle.co_switch.specs.Keys.{keys_degree};
+
 use crate::bfv::put_opened_slots;
 use crate::cases::Case;
 use crate::lines::{put, put_ciphers};
 use crate::switch::{degree_of_keys, tested};
 use anyhow::{Error, bail};
-use co_bfv::{encrypt, sample_secret};
+use co_bfv::{Cipher, encrypt, sample_secret};
 use co_ring::{Degree, Modulus};
-use co_rot::{all_rotations, parent};
+use co_rot::{Visitor, crown, parent, subtree_count, subtree_size, walk_subtree};
 use co_slots::encode_slots;
-use co_switch::{Steps, make_keys};
+use co_switch::{KeySet, Steps, make_keys};
 use rand_core::SeedableRng;
 use rand_xoshiro::SplitMix64;
-use std::alloc::Global;
+use std::alloc::{AllocError, Global};
 
 pub fn line(alloc: Global, call: &str, case: Case) -> Result<String, Error> {
     let mut line = String::new(alloc);
@@ -33,6 +37,46 @@ fn put_parents(alloc: Global, line: &mut String, case: Case) -> Result<(), Error
     Ok(())
 }
 
+/// Keeps the rotations that it is shown.
+#[derive(Drop)]
+struct Kept {
+    alloc: Global,
+    degree: usize,
+    rotations: Vec<Cipher>,
+}
+
+impl Visitor for Kept {
+    ghost visits = { λ _ _ _ _. Unit {0} };
+
+    ghost degree = { λ k. k.degree };
+
+    fn visit(&mut self, _rotation: u32, cipher: &Cipher) -> Result<(), AllocError> {
+        let copy = cipher.copy(self.alloc)?;
+        self.rotations.push(copy)?;
+        Ok(())
+    }
+}
+
+/// Shows a visitor all rotations, subtree by subtree.
+fn walk_all<V: Visitor>(
+    alloc: Global,
+    query: &Cipher,
+    keys: &KeySet,
+    visitor: &mut V,
+) -> Result<(), AllocError>
+    requires query { ciphertext_degree query.now ≡ keys_degree keys.now }
+    requires visitor { V.degree visitor.old ≡ keys_degree keys.now }
+{
+    let _ = keys.rotations();
+    let mut steps = Steps::begin();
+    let roots = crown(alloc, query, keys, &mut steps)?;
+    let size = subtree_size(keys);
+    for r in 0..subtree_count(keys) {
+        walk_subtree(alloc, r * size, &roots[r as usize], keys, visitor, &mut steps)?;
+    }
+    Ok(())
+}
+
 /// The rotations of the encryption of some slots: of each the digest, and the slots that it opens to.
 fn put_rotations(alloc: Global, line: &mut String, case: Case) -> Result<(), Error> {
     let tested = tested(case)?;
@@ -46,11 +90,16 @@ fn put_rotations(alloc: Global, line: &mut String, case: Case) -> Result<(), Err
     }
     let plain = encode_slots(alloc, degree, &slots)?;
     let query = encrypt(alloc, &secret, &plain, &mut words)?;
-    let all = all_rotations(alloc, &query, &keys, &mut Steps::begin())?;
-    for turned in &all {
+    let mut kept = Kept {
+        alloc,
+        degree: degree.get() as usize,
+        rotations: Vec::new(alloc),
+    };
+    walk_all(alloc, &query, &keys, &mut kept)?;
+    for turned in &kept.rotations {
         put_opened_slots(alloc, line, &secret, turned)?;
     }
-    for turned in all {
+    for turned in kept.rotations {
         put_ciphers(alloc, line, &[turned])?;
     }
     Ok(())

@@ -1,0 +1,133 @@
+-- All units together are the reply; the sums of two workers add up.
+use Rattle.std.proofs.Common.{◌≡◌, ℕ, zero, suc, ◌+◌, ◌-◌, ◌*◌, ◌/◌, ◌%◌, ◌<◌, ◌≤◌, ◌≢◌, refl, sym, ap, subst, ◌∙◌, ⊎_elim, arith, Bool, true, false, cond, min, eqb, eq-eqb, List, [], ◌∷◌, ◌++◌, length, get_or, set, map, All}
+use Rattle.std.specs.Prelude.{◌==◌, if◌then◌else◌}
+use Rattle.std.specs.Int.{div_ceil}
+use Rattle.std.specs.List.{range_with_len}
+use Rattle.std.proofs.lemmas.Bool.{cases_eq}
+use Rattle.std.proofs.lemmas.Grind.{div_ceil_times}
+use Rattle.std.proofs.Math.Nat.{mul-le-mul_left, mul-le-mul_right}
+use Rattle.std.proofs.lemmas.Bool.Decides.{nat_tests}
+use Rattle.std.proofs.lemmas.List.{ext_get_or, length-set, get_or-set_other, get_or-set_same}
+use Rattle.std.proofs.lemmas.List.Elements.{All-from_get_or}
+use Rattle.co_math.specs.Parameters.{q}
+use Rattle.co_math.specs.Coefficients.{coefficients, IsDegree, residues_of}
+use Rattle.co_bfv.specs.Ciphertexts.{Ciphertext, ciphertext_degree, ciphertext_sum, zero_ciphertext, plain_product}
+use Rattle.co_bfv.specs.Totals.{no_ciphertext, ciphertext_at, IsOfDegree, ciphertext_total}
+use Rattle.co_bfv.proofs.Totals.{total_of_totals, ciphertext_total-zero, ciphertext_total-suc, ciphertext_total-degree, ciphertext_total-IsOfDegree, ciphertext_sum-zero, ciphertext_sum-assoc, ciphertext_sum-degree, ciphertext_sum-IsOfDegree}
+use Rattle.co_crew.specs.Crew.{IsEach}
+use Rattle.co_crew.specs.Sums.{units_total, AreAdded}
+use Rattle.co_crew.proofs.Unit_sums.{units-none, units-snoc, units-append, units-each}
+use Rattle.co_pir.specs.Tables.{Table, payload_at}
+use Rattle.co_pir.specs.Replies.{chunk_reply, table_reply}
+use Rattle.co_pir.specs.Units.{pieces, unit_count, rows_of, piece_sum, unit_sum, AreUnitSums, AddsUnit}
+use Rattle.co_pir.proofs.Gathering.{length-table_reply, table_reply-at}
+use Rattle.co_pir.proofs.Pieces.{chunk_pieces}
+
+-- each unit once: the sum over all rows
+all-units : (t : Table) (cs : List Ciphertext) (chunk : ℕ) → chunk < t.chunks → ciphertext_total t.degree (unit_count t) (unit_sum t cs chunk) ≡ chunk_reply t cs chunk
+unfolding unit_sum piece_sum chunk_reply ciphertext_total
+all-units t cs chunk l =
+    let f : ℕ → Ciphertext = λ (r : ℕ). plain_product (ciphertext_at cs r) (payload_at t r chunk) in
+    total_of_totals t.degree (unit_count t) (λ unit. if unit / pieces t == chunk then rows_of t (unit % pieces t) else 0) (λ unit j. f (unit % pieces t * 64 + j))
+    ∙ (λ i. record {
+      c0 = residues_of q t.degree (λ x. chunk_pieces t.rows (λ r. coefficients (f r).c0 x) t.chunks (pieces t) chunk refl l i);
+      c1 = residues_of q t.degree (λ x. chunk_pieces t.rows (λ r. coefficients (f r).c1 x) t.chunks (pieces t) chunk refl l i);
+    })
+
+-- where an answer's units stand once each in a sum, the sum is the reply
+pub units_answered : (t : Table) (cs : List Ciphertext) (units : List ℕ) (replies : List Ciphertext) → IsEach (unit_count t) units → AreUnitSums t cs units replies → replies ≡ table_reply t cs
+units_answered t cs units replies each h =
+    ext_get_or no_ciphertext replies (table_reply t cs) (h.count ∙ sym (length-table_reply t cs))
+    (λ chunk l. let u : chunk < t.chunks = subst (λ (x : ℕ). chunk < x) h.count l in
+    h.each chunk l ∙ units-each t.degree (unit_sum t cs chunk) (unit_count t) units each ∙ all-units t cs chunk u ∙ sym (table_reply-at t cs chunk u))
+
+-- nothing was added yet
+pub none_summed : (t : Table) (cs replies : List Ciphertext) → IsDegree t.degree → length replies ≡ t.chunks → All (λ c. c ≡ zero_ciphertext t.degree) replies → AreUnitSums t cs [] replies
+none_summed t cs replies d len zeros = record {
+  count = len;
+  whole = λ a x l. zero_whole (zeros a x l);
+  each = λ chunk l. zeros chunk no_ciphertext l ∙ sym (units-none t.degree (unit_sum t cs chunk));
+}
+  where
+    zero_whole : {c : Ciphertext} → c ≡ zero_ciphertext t.degree → IsOfDegree t.degree c
+    zero_whole e = subst (IsOfDegree t.degree) (sym e) (subst (IsOfDegree t.degree) (ciphertext_total-zero t.degree (λ j. no_ciphertext)) (ciphertext_total-IsOfDegree t.degree 0 (λ j. no_ciphertext) d))
+
+-- what two workers have, added
+pub both_summed : (t : Table) (cs : List Ciphertext) (us vs : List ℕ) (before others after : List Ciphertext) → IsDegree t.degree → AreUnitSums t cs us before → AreUnitSums t cs vs others → AreAdded before others after
+    → AreUnitSums t cs (us ++ vs) after
+both_summed t cs us vs before others after d h g added = record {
+  count = added.count ∙ h.count;
+  whole = All-from_get_or (IsOfDegree t.degree) after no_ciphertext (λ a l.
+      let u : a < length before = omega (arith, added.count) in
+      subst (IsOfDegree t.degree) (sym (added.each a u)) (ciphertext_sum-IsOfDegree t.degree (ciphertext_at before a) (ciphertext_at others a) d (h.whole a no_ciphertext u).degree));
+  each = λ chunk l.
+      let u : chunk < length before = omega (arith, added.count) in
+      let v : chunk < length others = omega (arith, h.count, g.count) in
+      added.each chunk u ∙ (λ i. ciphertext_sum (h.each chunk u i) (g.each chunk v i)) ∙ units-append t.degree (unit_sum t cs chunk) us vs;
+}
+
+-- the rows of a piece, one after another
+module _ (t : Table) (cs : List Ciphertext) (chunk piece : ℕ) (before : Ciphertext) (whole : IsOfDegree t.degree before) where
+  pub no_row : before ≡ ciphertext_sum before (piece_sum t cs chunk piece 0)
+  unfolding piece_sum
+  no_row = sym (ap (ciphertext_sum before) (ciphertext_total-zero t.degree (λ j. plain_product (ciphertext_at cs (piece * 64 + j)) (payload_at t (piece * 64 + j) chunk))) ∙ ciphertext_sum-zero t.degree before whole)
+
+  pub more_rows : (count : ℕ) (now after c : Ciphertext) → now ≡ ciphertext_sum before (piece_sum t cs chunk piece count) → c ≡ ciphertext_at cs (piece * 64 + count)
+      → after ≡ ciphertext_sum now (plain_product c (payload_at t (piece * 64 + count) chunk)) → after ≡ ciphertext_sum before (piece_sum t cs chunk piece (count + 1))
+  unfolding piece_sum
+  more_rows count now after c e f g =
+      let term : ℕ → Ciphertext = λ (j : ℕ). plain_product (ciphertext_at cs (piece * 64 + j)) (payload_at t (piece * 64 + j) chunk) in
+      g ∙ (λ i. ciphertext_sum (e i) (plain_product (f i) (payload_at t (piece * 64 + count) chunk)))
+      ∙ ciphertext_sum-assoc t.degree before (ciphertext_total t.degree count term) (term count) whole.degree (ciphertext_total-degree t.degree count term)
+      ∙ ap (ciphertext_sum before) (ciphertext_total-suc t.degree count term) ∙ ap (λ k. ciphertext_sum before (ciphertext_total t.degree k term)) next
+    where
+      next : suc count ≡ count + 1
+      next = omega arith
+
+-- a unit more
+pub unit_added : (t : Table) (cs : List Ciphertext) (us : List ℕ) (unit : ℕ) (before after : List Ciphertext) → IsDegree t.degree → AreUnitSums t cs us before → AddsUnit t cs unit before after → AreUnitSums t cs (us ++ unit ∷ []) after
+unfolding unit_sum
+unit_added t cs us unit before after d h added =
+    let k = unit / pieces t in
+    let p = unit % pieces t in
+    let new = ciphertext_sum (ciphertext_at before k) (piece_sum t cs k p (rows_of t p)) in
+    let len : length after ≡ length before = ap length added.is ∙ length-set before k new in
+    let own : ciphertext_at after k ≡ new = ap (λ xs. ciphertext_at xs k) added.is ∙ get_or-set_same before k new no_ciphertext added.chunk_in in
+    let other : (a : ℕ) → a ≢ k → ciphertext_at after a ≡ ciphertext_at before a = λ a ne. ap (λ xs. ciphertext_at xs a) added.is ∙ get_or-set_other before k a new no_ciphertext ne in
+    record {
+      count = len ∙ h.count;
+      whole = All-from_get_or (IsOfDegree t.degree) after no_ciphertext (λ a l. ⊎_elim
+          (λ e. subst (λ (x : ℕ). IsOfDegree t.degree (ciphertext_at after x)) (sym e) (subst (IsOfDegree t.degree) (sym own)
+          (ciphertext_sum-IsOfDegree t.degree (ciphertext_at before k) (piece_sum t cs k p (rows_of t p)) d (h.whole k no_ciphertext added.chunk_in).degree)))
+          (λ ne. subst (IsOfDegree t.degree) (sym (other a ne)) (h.whole a no_ciphertext (omega (arith, len))))
+          (cases_eq a k));
+      each = λ a l. ⊎_elim
+          (λ e. subst (λ (x : ℕ). ciphertext_at after x ≡ units_total t.degree (unit_sum t cs x) (us ++ unit ∷ [])) (sym e)
+          (own ∙ ap (λ c. ciphertext_sum c (piece_sum t cs k p (rows_of t p))) (h.each k added.chunk_in)
+          ∙ ap (λ b. ciphertext_sum (units_total t.degree (unit_sum t cs k) us) (piece_sum t cs k p (cond b (rows_of t p) 0))) (sym (eq-eqb k k refl))
+          ∙ units-snoc t.degree (unit_sum t cs k) us unit))
+          (λ ne. let v : a < length before = omega (arith, len) in
+          other a ne ∙ no_row t cs a p (ciphertext_at before a) (h.whole a no_ciphertext v)
+          ∙ ap (λ c. ciphertext_sum c (piece_sum t cs a p 0)) (h.each a v)
+          ∙ ap (λ b. ciphertext_sum (units_total t.degree (unit_sum t cs a) us) (piece_sum t cs a p (cond b (rows_of t p) 0))) (sym (no k a (λ e. ne (sym e))))
+          ∙ units-snoc t.degree (unit_sum t cs a) us unit)
+          (cases_eq a k);
+    }
+  where
+    no : (k c : ℕ) → k ≢ c → eqb k c ≡ false
+    no k c ne = grind (arith, nat_tests)
+
+-- the first row of a piece is a row
+pub piece_inside : (rows piece : ℕ) → piece < div_ceil rows 64 → piece * 64 < rows
+piece_inside rows piece l = let h = (div_ceil_times rows 64 (omega arith)).1 in let more : (piece + 1) * 64 ≤ div_ceil rows 64 * 64 = mul-le-mul_right 64 (omega arith) in omega arith
+
+-- a row of a piece is a row
+pub row_inside : (rows piece count j : ℕ) → piece < div_ceil rows 64 → count ≡ min 64 (rows - piece * 64) → j < count → piece * 64 + j < rows
+row_inside rows piece count j l e u = let h = piece_inside rows piece l in omega arith
+
+pub zeros-degree : (n : ℕ) (cs : List Ciphertext) → All (λ c. c ≡ zero_ciphertext n) cs → All (λ c. ciphertext_degree c ≡ n) cs
+zeros-degree n cs zeros k d l = ap ciphertext_degree (zeros k d l ∙ sym (ciphertext_total-zero n (λ j. no_ciphertext))) ∙ ciphertext_total-degree n 0 (λ j. no_ciphertext)
+
+-- units can be numbered by 32 bits
+pub units_fit : (chunks pieces : ℕ) → chunks ≤ 2097152 → pieces ≤ 64 → chunks * pieces ≤ 2 ^ 32
+units_fit chunks pieces few small = let a = mul-le-mul_right pieces few in let b = mul-le-mul_left 2097152 small in omega arith
