@@ -15,6 +15,3 @@ mod reading;
 
 pub use documents::{Corpus, Document, Documents};
 pub use reading::{CorpusFault, read_corpus};
-
-#[cfg(test)]
-mod tests;

@@ -12,8 +12,6 @@
 pub mod laws;
 mod packing;
 mod records;
-#[cfg(test)]
-mod tests;
 
 pub use packing::{LONGEST_TEXT, MOST_DEGREE, MOST_DOCUMENTS, Place, Places, bin_size, pack_bins};
 pub use records::{RECORD_BYTES, Record, RecordFault, read_record, write_record};

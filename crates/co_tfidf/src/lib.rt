@@ -21,6 +21,3 @@ mod weight;
 pub use index::{Entries, Index, build_index};
 pub use search::plain_search;
 pub use weight::quarter_bits;
-
-#[cfg(test)]
-mod tests;

@@ -22,6 +22,3 @@ pub use fault::WireFault;
 pub use fields::{MOST_BYTES_IN_BINS, read_end, read_u16_within, read_u32_within, read_word};
 pub use reading::{read_fields, read_public, read_shape_fields};
 pub use writing::{put_shape_fields, put_u32, write_public};
-
-#[cfg(test)]
-mod tests;
