@@ -1,10 +1,8 @@
 -- What `import` leaves, from what its steps gave.
-use Rattle.std.proofs.Common.{◌≡◌, ◌≤◌, List, [], ℕ, Option, Some, None, Err, refl, sym, ap, subst, ◌∙◌, arith}
+use Rattle.std.proofs.Common.{◌≡◌, ◌≤◌, List, [], ℕ, Option, Some, None, refl, sym, ap, subst, ◌∙◌, arith}
 use Rattle.std.specs.Prelude.{IsSome}
 use Rattle.co_link.specs.Causes.{Rose}
-use Rattle.co_link.specs.Files.{Folder, file_at, WritesFile}
-use Rattle.co_link.specs.declared.files.FileFault.{FileFault}
-use Rattle.co_link.specs.declared.files.FileFault.TheVariants.{Failed, TooLong, OutOfMemory}
+use Rattle.co_link.specs.Files.{Folder, file_at}
 use Rattle.co_corpus.specs.declared.documents.Document.{Document}
 use Rattle.co_library.specs.Libraries.{Parts}
 use Rattle.co_library.specs.Files.{library_bytes}
@@ -37,15 +35,8 @@ some_same : (x y : Option (List ℕ)) → Some x ≡ Some y → x ≡ y
 some_same x y same = cc
 
 -- files of which each name tells the same tell the same
-same_files : (was is : Option Folder) → ((name : List ℕ) → file_at is name ≡ file_at was name) → is ≡ was
+pub same_files : (was is : Option Folder) → ((name : List ℕ) → file_at is name ≡ file_at was name) → is ≡ was
 same_files None None same = refl
 same_files None (Some now) same = let one : Some (now []) ≡ None = same [] in absurd cc
 same_files (Some before) None same = let one : None ≡ Some (before []) = same [] in absurd cc
 same_files (Some before) (Some now) same = λ i. Some (λ name. some_same (now name) (before name) (same name) i)
-
--- a write that didn't fail and wasn't done left the files
-pub not_written : (was is : Option Folder) (name bytes : List ℕ) (fault : FileFault) → (fault ≡ Failed → ⊥) → WritesFile was is name bytes (Err fault)
-    → is ≡ was
-not_written was is name bytes Failed not write = absurd (not refl)
-not_written was is name bytes TooLong not write = absurd (write.never_too_long refl)
-not_written was is name bytes OutOfMemory not write = same_files was is (write.kept refl)

@@ -71,7 +71,8 @@ fn search(
 /// The corpus of a file.
 pub fn read_documents<F: Files>(alloc: Global, name: &str, files: &mut F) -> Result<Corpus, Refusal>
     ensures ok { IfOk result (HasCorpus (F.held files.old) name.now) }
-    ensures cause { let was = files_state (F.held files.old) (F.faults files.old) (F.last_failed files.old) in
+    ensures cause { let was = files_state
+        (F.held files.old) (F.faults files.old) (F.last_failed files.old) in
         let is = files_state (F.held files.new) (F.faults files.new) (F.last_failed files.new) in
         IfErr result (ReadCause name.now was is) }
     ensures files { F.held files.new ≡ F.held files.old }

@@ -59,7 +59,8 @@ pub fn import<F: Files, O: Sink>(
     match files.write(command.library, bytes.as_slice()) {
         Ok(()) => {}
         Err(FileFault::Failed) => return Err(Refusal::File(FileKind::Write)),
-        Err(_) => return Err(Refusal::Memory),
+        Err(FileFault::TooLong) => unreachable!(),
+        Err(FileFault::OutOfMemory) => return Err(Refusal::Memory),
     }
     match out.put(line.as_bytes()) {
         Ok(()) => Ok(()),

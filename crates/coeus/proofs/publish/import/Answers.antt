@@ -1,7 +1,7 @@
 use Rattle.std.proofs.Common.{refl, ap, ◌∙◌, Err}
 use Rattle.coeus.specs.Commands.{import_shown}
 use Rattle.coeus.specs.Imports.{import_text}
-use Rattle.coeus.proofs.Importing.{import_answer, not_written, others_kept, rose_since}
+use Rattle.coeus.proofs.Importing.{import_answer, same_files, others_kept, rose_since}
 use Rattle.coeus.proofs.publish.import.Goals as goal
 
 pub returns-in-Err-Failed : goal.returns-in-Err-Failed
@@ -17,11 +17,14 @@ returns-in-Err-Failed g c =
       files = λ name differs. others_kept _ _ _ name c.read_documents.ensures.files (c.write-2.ensures.bytes.others name differs);
     }
 
-pub returns-in-Err-write : goal.returns-in-Err-write
-returns-in-Err-write g c = record {
+pub unreachable-requires : goal.unreachable-requires
+unreachable-requires g c = absurd (c.in-Err-TooLong.ensures.bytes.never_too_long (ap Err c.in-Err-TooLong.field-0-is))
+
+pub returns-in-Err-OutOfMemory : goal.returns-in-Err-OutOfMemory
+returns-in-Err-OutOfMemory g c = record {
   cause = tt;
   out = refl;
-  files = not_written _ _ _ _ c.in-Err-write.field-0 c.in-Err-write.not-Failed c.in-Err-write.ensures.bytes ∙ c.read_documents.ensures.files;
+  files = same_files _ _ (c.in-Err-OutOfMemory.ensures.bytes.kept (ap Err c.in-Err-OutOfMemory.field-0-is)) ∙ c.read_documents.ensures.files;
 }
 
 pub returns-in-Ok-put : goal.returns-in-Ok-put
