@@ -14,6 +14,10 @@ use Rattle.co_math.specs.Coefficients.{coefficients, IsDegree, residues_of}
 use Rattle.co_bfv.specs.Ciphertexts.{Ciphertext, ciphertext_degree, ciphertext_sum, zero_ciphertext, plain_product}
 use Rattle.co_bfv.specs.Totals.{no_ciphertext, ciphertext_at, IsOfDegree, ciphertext_total}
 use Rattle.co_bfv.proofs.Totals.{total_of_totals, ciphertext_total-zero, ciphertext_total-suc, ciphertext_total-degree, ciphertext_total-IsOfDegree, ciphertext_sum-zero, ciphertext_sum-assoc, ciphertext_sum-degree, ciphertext_sum-IsOfDegree}
+use Rattle.co_board.specs.Once.{sum_below}
+use Rattle.co_board.proofs.Counts.{sum_below-constant}
+use Rattle.co_switch.specs.Steps.{raised, HasRisen}
+use Rattle.co_switch.proofs.Rising.{raised-zero, raised-up}
 use Rattle.co_crew.specs.Crew.{IsEach}
 use Rattle.co_crew.specs.Sums.{units_total, AreAdded}
 use Rattle.co_crew.proofs.Unit_sums.{units-none, units-snoc, units-append, units-each}
@@ -131,3 +135,17 @@ zeros-degree n cs zeros k d l = ap ciphertext_degree (zeros k d l ∙ sym (ciphe
 -- units can be numbered by 32 bits
 pub units_fit : (chunks pieces : ℕ) → chunks ≤ 2097152 → pieces ≤ 64 → chunks * pieces ≤ 2 ^ 32
 units_fit chunks pieces few small = let a = mul-le-mul_right pieces few in let b = mul-le-mul_left 2097152 small in omega arith
+
+-- the units take no step beyond those of the expansion
+module _ (start most units expanded now : ℕ) (e : expanded ≡ raised start most) where
+  no_cost : raised expanded (sum_below units (λ i. 0)) ≡ raised start most
+  no_cost = ap (raised expanded) (sum_below-constant units 0 ∙ nothing units) ∙ raised-zero expanded ∙ e
+    where
+      nothing : (k : ℕ) → k * 0 ≡ 0
+      nothing k = omega arith
+
+  pub expansion_stepped : now ≡ raised expanded (sum_below units (λ i. 0)) → now ≡ raised start most
+  expansion_stepped f = f ∙ no_cost
+
+  pub expansion_risen : HasRisen expanded (sum_below units (λ i. 0)) now → HasRisen start most now
+  expansion_risen h = let up = raised-up start most in record { at_least = omega (arith, h.at_least, e, up); at_most = omega (arith, h.at_most, no_cost) }
