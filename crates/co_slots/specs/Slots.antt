@@ -1,5 +1,5 @@
 -- Slots: values of a polynomial modulo t at powers of its root.
-use Rattle.std.specs.Prelude.{ℕ, pos, neg_ℤ, ◌-◌, ◌*◌, ◌/◌, ◌<◌, ◌≡◌, ◌^◌, List, length, slice_index, nat_lt, if◌then◌else◌}
+use Rattle.std.specs.Prelude.{ℕ, ℤ, pos, neg_ℤ, ◌-◌, ◌*◌, ◌/◌, ◌<◌, ◌≡◌, ◌^◌, List, length, slice_index, nat_lt, if◌then◌else◌}
 use Rattle.co_math.specs.Residues.{residue}
 use Rattle.co_math.specs.Powers.{power, root}
 use Rattle.co_math.specs.Values.{value_at}
