@@ -4,12 +4,13 @@ use Rattle.std.proofs.lemmas.List.{get_or_read}
 use Rattle.co_bfv.specs.Ciphertexts.{Ciphertext, ciphertext_degree, ciphertext_sum}
 use Rattle.co_bfv.specs.Totals.{no_ciphertext, IsOfDegree}
 use Rattle.co_bfv.proofs.Totals.{ciphertext_sum-degree}
+use Rattle.co_math.proofs.Degrees.{degree_most}
 use Rattle.co_pir.specs.Units.{piece_sum, rows_of}
 use Rattle.co_pir.proofs.Answering.{piece_inside, row_inside, no_row, more_rows}
 use Rattle.co_pir.proofs.replying.add_piece.Goals as goal
 
 pub overflow_mul-first : goal.overflow_mul-first
-overflow_mul-first c = let h = piece_inside c.args.rows.now.rows c.args.piece c.requires.piece in ?
+overflow_mul-first c = let h = piece_inside c.args.rows.now.rows c.args.piece c.requires.piece in let few = c.degree.ensures.table.few in omega (arith, h, few, degree_most c.args.rows.now.degree c.degree.ensures.table.degree)
 
 pub loop-j-init : goal.loop-j-init
 loop-j-init c = no_row c.args.rows.now c.args.ciphers.now c.args.chunk c.args.piece c.args.sum.now (record { cipher = c.degree-2.ensures.ciphertext; degree = c.requires.sum_degree })
