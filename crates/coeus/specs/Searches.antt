@@ -4,7 +4,7 @@ use Rattle.co_link.specs.Files.{Folder, file_at, IsLonger}
 use Rattle.co_link.specs.declared.files.FileKind.TheVariants.{Read}
 use Rattle.co_text.specs.Terms.{terms, distinct}
 use Rattle.co_text.specs.Printed.{printed}
-use Rattle.co_text.specs.declared.terms.TheConstants.{MAX_KEYWORDS}
+use Rattle.co_text.specs.declared.limits.TheConstants.{MAX_KEYWORDS}
 use Rattle.co_corpus.specs.Reading.{corpus_of}
 use Rattle.co_corpus.specs.declared.documents.Document.{Document}
 use Rattle.co_corpus.specs.declared.reading.CorpusFault.{CorpusFault}
