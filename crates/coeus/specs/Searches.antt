@@ -14,9 +14,9 @@ use Rattle.co_library.specs.declared.settings.Settings.{Settings}
 use Rattle.co_library.specs.declared.publishing.PublishFault.TheVariants.{Setting}
 use Rattle.coeus.specs.declared.limits.TheConstants.{MAX_CORPUS, DEFAULT_DEGREE, DEFAULT_SALT, DEFAULT_CHUNKS}
 use Rattle.coeus.specs.Words.{PlainWords, joined}
-use Rattle.coeus.specs.Outside.{Outside, FilesState, Fails}
+use Rattle.coeus.specs.Outside.{FilesState, Fails}
 use Rattle.coeus.specs.declared.refusals.Refusal.{Refusal}
-use Rattle.coeus.specs.declared.refusals.Refusal.TheVariants.{Words, Corpus, CorpusTooLong, Publish, Test, Keywords, File, Output, Memory}
+use Rattle.coeus.specs.declared.refusals.Refusal.TheVariants.{Corpus, CorpusTooLong, Publish, Keywords, File, Memory}
 
 -- ---- the corpus of a file
 
