@@ -1,6 +1,5 @@
 -- The end of a whole reading.
-use Rattle.std.proofs.Common.{◌≡◌, ℕ, Bool, true, false, cond, eqb, List, length, drop, Ok, Err, refl, sym, ap, ◌∙◌, arith}
-use Rattle.std.proofs.lemmas.Bool.{eq-eqb, eqb-true}
+use Rattle.std.proofs.Common.{◌≡◌, ℕ, Bool, true, false, cond, eqb, List, length, drop, Ok, Err, refl, sym, ap, ◌∙◌}
 use Rattle.co_wire.specs.Reading.{Left, left, ◌>>=◌, magic, headed, ended, Fails}
 use Rattle.co_wire.specs.declared.fault.WireFault.{WireFault}
 use Rattle.co_wire.specs.declared.fault.WireFault.TheVariants.{Length, Range, Public, OutOfMemory}
