@@ -11,7 +11,8 @@ one_more xs ys x e = grind (arith, elements, e)
 pub loop-chunk-preserved : goal.loop-chunk-preserved
 loop-chunk-preserved c =
     let n = c.args.rows.now.degree in
-    let before = c.loop-chunk.invariant in
-    (one_more c.loop-chunk.sums.items c.push.new.self.items c.in_ok-zero.field-0 c.in_ok-push.ensures.items ∙ ap (λ k. k + 1) before.0,
-    subst (All (λ x. x ≡ zero_ciphertext n)) (sym c.in_ok-push.ensures.items)
-    (All-push (λ x. x ≡ zero_ciphertext n) c.loop-chunk.sums.items c.in_ok-zero.field-0 before.1 (c.in_ok-zero.ensures.value ∙ ap zero_ciphertext c.degree.ensures.value)))
+    let before = c.loop-chunk.invariant in (
+      one_more c.loop-chunk.sums.items c.push.new.self.items c.in_ok-zero.field-0 c.in_ok-push.ensures.items ∙ ap (λ k. k + 1) before.0,
+      subst (All (λ x. x ≡ zero_ciphertext n)) (sym c.in_ok-push.ensures.items)
+          (All-push (λ x. x ≡ zero_ciphertext n) c.loop-chunk.sums.items c.in_ok-zero.field-0 before.1 (c.in_ok-zero.ensures.value ∙ ap zero_ciphertext c.degree.ensures.value)),
+    )
