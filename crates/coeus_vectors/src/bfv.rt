@@ -3,10 +3,9 @@
 ghost use Rattle.std.specs.Prelude.{◌≡◌, length, IfOk};
 ghost use Rattle.co_bfv.specs.Ciphertexts.{ciphertext_degree};
 
-use crate::cases::Case;
+use crate::cases::{BadCase, Case};
 use crate::lines::{put, put_ciphers, put_pair, put_poly, put_words};
 use crate::streams::{Stand, skip};
-use anyhow::{Error, bail};
 use co_bfv::{Cipher, Secret, decrypt, encrypt, sample_error, sample_secret, sample_uniform};
 use co_ring::{Degree, Modulus, Poly};
 use co_slots::decode_slots;
@@ -14,7 +13,12 @@ use rand_core::Rng;
 use std::alloc::Global;
 
 /// The secret is drawn first, and then some words are passed over.
-pub fn line<R: Stand>(alloc: Global, call: &str, case: Case, rng: &mut R) -> Result<String, Error> {
+pub fn line<R: Stand>(
+    alloc: Global,
+    call: &str,
+    case: Case,
+    rng: &mut R,
+) -> Result<String, BadCase> {
     let degree = case.degree()?;
     let mut line = String::new(alloc);
     let secret = sample_secret(alloc, degree, rng)?;
@@ -29,7 +33,7 @@ pub fn line<R: Stand>(alloc: Global, call: &str, case: Case, rng: &mut R) -> Res
         "difference" => put_combined(alloc, &mut line, call, case, &secret, rng)?,
         "product" => put_combined(alloc, &mut line, call, case, &secret, rng)?,
         "times" => put_multiple(alloc, &mut line, case, &secret, rng)?,
-        _ => bail!("no such call"),
+        _ => return Err(BadCase::Unfit),
     }
     put(&mut line, rng.stand() as u128)?;
     Ok(line)
@@ -42,21 +46,21 @@ pub fn encrypted<R: Rng>(
     name: &str,
     secret: &Secret,
     rng: &mut R,
-) -> Result<Cipher, Error>
+) -> Result<Cipher, BadCase>
     ensures { IfOk result (λ c. ciphertext_degree c ≡ length secret.now) }
 {
     let message = case.poly(alloc, Modulus::Plain, name)?;
     if message.degree() != secret.degree() {
-        bail!("two degrees");
+        return Err(BadCase::Unfit);
     }
     Ok(encrypt(alloc, secret, &message, rng)?)
 }
 
-fn opened(alloc: Global, secret: &Secret, cipher: &Cipher) -> Result<Poly, Error>
+fn opened(alloc: Global, secret: &Secret, cipher: &Cipher) -> Result<Poly, BadCase>
     ensures { IfOk result (λ p. p.modulus ≡ Modulus.Plain) }
 {
     if cipher.degree() != secret.degree() {
-        bail!("two degrees");
+        return Err(BadCase::Unfit);
     }
     Ok(decrypt(alloc, secret, cipher)?)
 }
@@ -67,7 +71,7 @@ pub fn put_opened(
     line: &mut String,
     secret: &Secret,
     cipher: &Cipher,
-) -> Result<(), Error> {
+) -> Result<(), BadCase> {
     put_poly(line, &opened(alloc, secret, cipher)?)?;
     Ok(())
 }
@@ -78,7 +82,7 @@ pub fn put_opened_slots(
     line: &mut String,
     secret: &Secret,
     cipher: &Cipher,
-) -> Result<(), Error> {
+) -> Result<(), BadCase> {
     let message = opened(alloc, secret, cipher)?;
     put_words(line, &decode_slots(alloc, &message)?)?;
     Ok(())
@@ -90,7 +94,7 @@ fn put_encryption<R: Rng>(
     case: Case,
     secret: &Secret,
     rng: &mut R,
-) -> Result<(), Error> {
+) -> Result<(), BadCase> {
     let cipher = encrypted(alloc, case, "message", secret, rng)?;
     put_pair(line, cipher.c0())?;
     put_pair(line, cipher.c1())?;
@@ -102,11 +106,11 @@ fn put_decryption(
     line: &mut String,
     case: Case,
     secret: &Secret,
-) -> Result<(), Error> {
+) -> Result<(), BadCase> {
     let c0 = case.pair(alloc, "c0")?;
     let c1 = case.pair(alloc, "c1")?;
     if c0.degree() != c1.degree() {
-        bail!("two degrees");
+        return Err(BadCase::Unfit);
     }
     put_opened(alloc, line, secret, &Cipher::from_parts(c0, c1))
 }
@@ -119,7 +123,7 @@ fn put_combined<R: Rng>(
     case: Case,
     secret: &Secret,
     rng: &mut R,
-) -> Result<(), Error> {
+) -> Result<(), BadCase> {
     let mut one = encrypted(alloc, case, "one", secret, rng)?;
     let other = encrypted(alloc, case, "other", secret, rng)?;
     match call {
@@ -132,10 +136,10 @@ fn put_combined<R: Rng>(
     Ok(())
 }
 
-fn plain_product(alloc: Global, case: Case, cipher: &Cipher) -> Result<Cipher, Error> {
+fn plain_product(alloc: Global, case: Case, cipher: &Cipher) -> Result<Cipher, BadCase> {
     let plain = case.poly(alloc, Modulus::Plain, "plain")?;
     if plain.degree() != cipher.degree() {
-        bail!("two degrees");
+        return Err(BadCase::Unfit);
     }
     Ok(cipher.mul_plain(alloc, &plain)?)
 }
@@ -147,7 +151,7 @@ fn put_multiple<R: Rng>(
     case: Case,
     secret: &Secret,
     rng: &mut R,
-) -> Result<(), Error> {
+) -> Result<(), BadCase> {
     let one = encrypted(alloc, case, "message", secret, rng)?;
     let mut sum = Cipher::zero(alloc, Degree::of(one.degree()))?;
     for _ in 0..case.number("count") {

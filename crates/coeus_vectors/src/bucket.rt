@@ -3,15 +3,14 @@
 ghost use Rattle.std.specs.Prelude.{◌<◌, ◌≤◌, IsTrue};
 ghost use Rattle.std.specs.List.{All};
 
-use crate::cases::Case;
+use crate::cases::{BadCase, Case};
 use crate::lines::{put, put_numbers, put_text};
-use anyhow::{Error, bail};
 use co_bucket::{
     MOST_ITEMS, PlaceFault, bucket_lists, buckets, candidates, place, record_rows, rows_needed,
 };
 use std::alloc::{AllocError, Global};
 
-pub fn line(alloc: Global, call: &str, case: Case) -> Result<String, Error> {
+pub fn line(alloc: Global, call: &str, case: Case) -> Result<String, BadCase> {
     let mut line = String::new(alloc);
     match call {
         "buckets" => put_buckets(alloc, &mut line, case)?,
@@ -19,25 +18,25 @@ pub fn line(alloc: Global, call: &str, case: Case) -> Result<String, Error> {
         "lengths" => put_lists(alloc, &mut line, case, false)?,
         "lists" => put_lists(alloc, &mut line, case, true)?,
         "place" => put_placement(alloc, &mut line, case)?,
-        _ => bail!("no such call"),
+        _ => return Err(BadCase::Unfit),
     }
     Ok(line)
 }
 
-fn put_buckets(alloc: Global, line: &mut String, case: Case) -> Result<(), Error> {
+fn put_buckets(alloc: Global, line: &mut String, case: Case) -> Result<(), BadCase> {
     for hits in case.numbers(alloc, "hits")?.iter() {
         if *hits == 0 || *hits as usize > MOST_ITEMS {
-            bail!("no hits");
+            return Err(BadCase::Unfit);
         }
         put(line, buckets(*hits) as u128)?;
     }
     Ok(())
 }
 
-fn put_candidates(line: &mut String, case: Case) -> Result<(), Error> {
+fn put_candidates(line: &mut String, case: Case) -> Result<(), BadCase> {
     let buckets = case.number("buckets");
     if buckets == 0 {
-        bail!("no buckets");
+        return Err(BadCase::Unfit);
     }
     let found = candidates(case.number("salt"), buckets, case.number("document"));
     put_numbers(line, &found)?;
@@ -45,10 +44,10 @@ fn put_candidates(line: &mut String, case: Case) -> Result<(), Error> {
 }
 
 /// The rows of records that are needed, by both calls, and the lists, or their lengths.
-fn put_lists(alloc: Global, line: &mut String, case: Case, whole: bool) -> Result<(), Error> {
+fn put_lists(alloc: Global, line: &mut String, case: Case, whole: bool) -> Result<(), BadCase> {
     let hits = case.number("hits");
     if hits == 0 || hits as usize > MOST_ITEMS {
-        bail!("no hits");
+        return Err(BadCase::Unfit);
     }
     let (degree, salt) = (case.number("degree"), case.number("salt"));
     let documents = case.number("documents");
@@ -87,11 +86,11 @@ fn are_below(rows: &[[u32; 3]], buckets: u32) -> bool
 }
 
 /// The position of the item of each bucket, or the witness that there is no placement.
-fn put_placement(alloc: Global, line: &mut String, case: Case) -> Result<(), Error> {
+fn put_placement(alloc: Global, line: &mut String, case: Case) -> Result<(), BadCase> {
     let rows = rows(alloc, case)?;
     let buckets = case.number("buckets");
     if rows.len() > MOST_ITEMS || !are_below(&rows, buckets) {
-        bail!("no items");
+        return Err(BadCase::Unfit);
     }
     match place(alloc, &rows, buckets) {
         Ok(placement) => put_placed(line, placement.as_slice())?,
@@ -101,7 +100,7 @@ fn put_placement(alloc: Global, line: &mut String, case: Case) -> Result<(), Err
             put_text(line, "buckets")?;
             put_numbers(line, buckets.as_slice())?;
         }
-        Err(_) => bail!("out of memory"),
+        Err(_) => return Err(BadCase::Unfit),
     }
     Ok(())
 }

@@ -5,12 +5,25 @@ ghost use Rattle.co_math.specs.Coefficients.{AreBelow};
 ghost use Rattle.co_math.specs.Parameters.{q};
 ghost use Rattle.co_ring.specs.Moduli.{value_of};
 
-use anyhow::{Error, bail};
 use co_math::parameters::CIPHER_MODULUS;
 use co_ring::{Degree, Modulus, Poly};
 use co_rns::Pair;
 use serde_json::Value;
 use std::alloc::{AllocError, Global};
+
+/// Why a case has no line.
+#[derive(Clone, Copy)]
+pub enum BadCase {
+    /// It gives a call what the call doesn't take, or names none.
+    Unfit,
+    OutOfMemory,
+}
+
+impl From<AllocError> for BadCase {
+    fn from(_e: AllocError) -> BadCase {
+        BadCase::OutOfMemory
+    }
+}
 
 /// One case of a layer.
 #[derive(Clone, Copy)]
@@ -52,8 +65,11 @@ impl<'a> Case<'a> {
     }
 
     /// The bytes that a field spells in hexadecimal.
-    pub fn bytes(&self, alloc: Global, name: &str) -> Result<Vec<u8>, Error> {
-        Ok(hex::decode(alloc, self.text(name))?)
+    pub fn bytes(&self, alloc: Global, name: &str) -> Result<Vec<u8>, BadCase> {
+        match hex::decode(alloc, self.text(name)) {
+            Ok(bytes) => Ok(bytes),
+            Err(_) => Err(BadCase::Unfit),
+        }
     }
 
     /// The modulus that a field names.
@@ -66,7 +82,7 @@ impl<'a> Case<'a> {
     }
 
     /// The degree that a field says.
-    pub fn degree(&self) -> Result<Degree, Error> {
+    pub fn degree(&self) -> Result<Degree, BadCase> {
         degree_of(self.number("degree") as usize)
     }
 
@@ -87,7 +103,7 @@ impl<'a> Case<'a> {
     }
 
     /// The polynomial whose coefficients a field lists.
-    pub fn poly(&self, alloc: Global, modulus: Modulus, name: &str) -> Result<Poly, Error>
+    pub fn poly(&self, alloc: Global, modulus: Modulus, name: &str) -> Result<Poly, BadCase>
         ensures { IfOk result (λ p. p.modulus ≡ modulus) }
     {
         let coeffs = self.residues(alloc, modulus, name)?;
@@ -106,7 +122,7 @@ impl<'a> Case<'a> {
     }
 
     /// The polynomial modulo q whose coefficients a field lists.
-    pub fn pair(&self, alloc: Global, name: &str) -> Result<Pair, Error> {
+    pub fn pair(&self, alloc: Global, name: &str) -> Result<Pair, BadCase> {
         let coeffs = self.wholes(alloc, name)?;
         let degree = degree_of(coeffs.len())?;
         Ok(Pair::split(alloc, degree, &coeffs)?)
@@ -114,14 +130,14 @@ impl<'a> Case<'a> {
 }
 
 /// The degree of so many coefficients.
-pub fn degree_of(count: usize) -> Result<Degree, Error>
+pub fn degree_of(count: usize) -> Result<Degree, BadCase>
     ensures { IfOk result (λ d. d ≡ count) }
 {
     if count > 4096 {
-        bail!("no degree");
+        return Err(BadCase::Unfit);
     }
     match Degree::new(count as u32) {
         Some(degree) => Ok(degree),
-        None => bail!("no degree"),
+        None => return Err(BadCase::Unfit),
     }
 }

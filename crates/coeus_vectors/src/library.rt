@@ -1,17 +1,16 @@
 //! Libraries, their files and their public bytes.
 
-use crate::cases::Case;
+use crate::cases::{BadCase, Case};
 use crate::lines::{put, put_bytes, put_digest, put_numbers, put_text};
 use crate::text::put_terms;
 use crate::tfidf::corpus;
-use anyhow::{Error, bail};
 use co_library::{Library, LibraryFault, Settings, publish};
 use co_link::Bytes;
 use co_noise::Shape;
 use co_wire::{WireFault, read_public, read_shape_fields, write_public};
 use std::alloc::{AllocError, Global};
 
-pub fn line(alloc: Global, call: &str, case: Case) -> Result<String, Error> {
+pub fn line(alloc: Global, call: &str, case: Case) -> Result<String, BadCase> {
     let mut line = String::new(alloc);
     match call {
         "publish" => put_library(alloc, &mut line, case)?,
@@ -19,7 +18,7 @@ pub fn line(alloc: Global, call: &str, case: Case) -> Result<String, Error> {
         "parts" => put_parts(alloc, &mut line, case)?,
         "file" => put_file_faults(alloc, &mut line, case)?,
         "public" => put_public_faults(alloc, &mut line, case)?,
-        _ => bail!("no such call"),
+        _ => return Err(BadCase::Unfit),
     }
     Ok(line)
 }
@@ -34,10 +33,10 @@ fn settings(case: Case) -> Settings {
     }
 }
 
-fn library(alloc: Global, case: Case) -> Result<Library, Error> {
+fn library(alloc: Global, case: Case) -> Result<Library, BadCase> {
     match publish(alloc, &corpus(alloc, case)?, &settings(case)) {
         Ok(library) => Ok(library),
-        Err(_) => bail!("not published"),
+        Err(_) => return Err(BadCase::Unfit),
     }
 }
 
@@ -62,14 +61,14 @@ fn put_shape(line: &mut String, shape: &Shape) -> Result<(), AllocError> {
 
 /// The shape, the length of the file and its digest, whether it is read and written again, and the
 /// public bytes.
-fn put_library(alloc: Global, line: &mut String, case: Case) -> Result<(), Error> {
+fn put_library(alloc: Global, line: &mut String, case: Case) -> Result<(), BadCase> {
     let library = library(alloc, case)?;
     put_shape(line, library.shape())?;
     let file = library.write(alloc)?;
     put(line, file.len() as u128)?;
     put_digest(alloc, line, file.as_slice())?;
     let Ok(again) = Library::read(alloc, file.as_slice()) else {
-        bail!("not read again");
+        return Err(BadCase::Unfit);
     };
     if again.write(alloc)?.as_slice() == file.as_slice() {
         put_text(line, "again")?;
@@ -78,17 +77,17 @@ fn put_library(alloc: Global, line: &mut String, case: Case) -> Result<(), Error
 }
 
 /// The public bytes, how many of them are fields and terms, and what they say.
-fn put_public(alloc: Global, line: &mut String, library: &Library) -> Result<(), Error> {
+fn put_public(alloc: Global, line: &mut String, library: &Library) -> Result<(), BadCase> {
     let bytes = public_bytes(alloc, library)?;
     put_bytes(alloc, line, bytes.as_slice())?;
     if bytes.len() < 8 {
-        bail!("no public bytes");
+        return Err(BadCase::Unfit);
     }
     let (Ok((_, _, behind)), Ok((shape, terms))) = (
         read_shape_fields(alloc, bytes.as_slice(), 8),
         read_public(alloc, bytes.as_slice()),
     ) else {
-        bail!("not read again");
+        return Err(BadCase::Unfit);
     };
     put(line, behind as u128)?;
     put_shape(line, &shape)?;
@@ -96,7 +95,7 @@ fn put_public(alloc: Global, line: &mut String, library: &Library) -> Result<(),
     Ok(())
 }
 
-fn put_refusal(alloc: Global, line: &mut String, case: Case) -> Result<(), Error> {
+fn put_refusal(alloc: Global, line: &mut String, case: Case) -> Result<(), BadCase> {
     match publish(alloc, &corpus(alloc, case)?, &settings(case)) {
         Ok(_) => put_text(line, "published")?,
         Err(fault) => write!(line, " {fault:?}")?,
@@ -105,7 +104,7 @@ fn put_refusal(alloc: Global, line: &mut String, case: Case) -> Result<(), Error
 }
 
 /// The weights, the record of a document, and the lengths of all records and of all bins.
-fn put_parts(alloc: Global, line: &mut String, case: Case) -> Result<(), Error> {
+fn put_parts(alloc: Global, line: &mut String, case: Case) -> Result<(), BadCase> {
     let library = library(alloc, case)?;
     for (term, document, weight) in library.weights() {
         put_numbers(line, &[*term, *document, *weight as u32])?;
@@ -119,19 +118,21 @@ fn put_parts(alloc: Global, line: &mut String, case: Case) -> Result<(), Error> 
 }
 
 /// The bytes with a change: a cut to some length, bytes at the end, or bytes put over an offset.
-fn changed(alloc: Global, good: &[u8], change: &str) -> Result<Bytes, Error> {
+fn changed(alloc: Global, good: &[u8], change: &str) -> Result<Bytes, BadCase> {
     let Some((how, what)) = change.split_once('/') else {
-        bail!("no change");
+        return Err(BadCase::Unfit);
     };
     if how == "cut" {
-        let kept = what.parse::<usize>()?;
+        let kept = what.parse::<usize>().unwrap_or(0);
         return Ok(Bytes::copy_of(alloc, good.get(..kept).unwrap_or(good))?);
     }
     let at = match how {
         "extend" => good.len(),
-        offset => offset.parse::<usize>()?,
+        offset => offset.parse::<usize>().unwrap_or(0),
     };
-    let put = hex::decode(alloc, what)?;
+    let Ok(put) = hex::decode(alloc, what) else {
+        return Err(BadCase::Unfit);
+    };
     let mut bytes = Bytes::copy_of(alloc, good.get(..at).unwrap_or(good))?;
     bytes.append(&put)?;
     if let Some(rest) = good.get(at.saturating_add(put.len())..) {
@@ -148,13 +149,13 @@ fn put_place(line: &mut String, place: Option<u64>) -> Result<(), AllocError> {
 }
 
 /// The place of the first fault of a library's file after each change.
-fn put_file_faults(alloc: Global, line: &mut String, case: Case) -> Result<(), Error> {
+fn put_file_faults(alloc: Global, line: &mut String, case: Case) -> Result<(), BadCase> {
     let file = library(alloc, case)?.write(alloc)?;
     for change in case.text("changes").split_ascii_whitespace() {
         let bytes = changed(alloc, file.as_slice(), change)?;
         let place = match Library::read(alloc, bytes.as_slice()) {
             Err(LibraryFault::BadLibrary { place }) => Some(place),
-            Err(LibraryFault::OutOfMemory) => bail!("out of memory"),
+            Err(LibraryFault::OutOfMemory) => return Err(BadCase::OutOfMemory),
             Ok(_) => None,
         };
         put_place(line, place)?;
@@ -163,13 +164,13 @@ fn put_file_faults(alloc: Global, line: &mut String, case: Case) -> Result<(), E
 }
 
 /// The place of the first fault of its public bytes after each change.
-fn put_public_faults(alloc: Global, line: &mut String, case: Case) -> Result<(), Error> {
+fn put_public_faults(alloc: Global, line: &mut String, case: Case) -> Result<(), BadCase> {
     let public = public_bytes(alloc, &library(alloc, case)?)?;
     for change in case.text("changes").split_ascii_whitespace() {
         let bytes = changed(alloc, public.as_slice(), change)?;
         let place = match read_public(alloc, bytes.as_slice()) {
             Err(WireFault::Public { place }) => Some(place),
-            Err(_) => bail!("another fault"),
+            Err(_) => return Err(BadCase::Unfit),
             Ok(_) => None,
         };
         put_place(line, place)?;

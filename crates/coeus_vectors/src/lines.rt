@@ -1,6 +1,5 @@
 //! What came of a call, as a line of text: each number or word behind a space.
 
-use anyhow::Error;
 use co_bfv::Cipher;
 use co_math::parameters::{FIRST_MODULUS, SECOND_MODULUS};
 use co_ring::Poly;

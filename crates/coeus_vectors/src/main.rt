@@ -28,7 +28,7 @@ mod text;
 mod tfidf;
 
 use anyhow::{Error, bail};
-use cases::Case;
+use cases::{BadCase, Case};
 use serde_json::Value;
 use std::alloc::Global;
 use std::fs;
@@ -46,7 +46,7 @@ fn line_of<R: Threads + Sync>(
     layer: &str,
     call: &str,
     case: Case,
-) -> Result<String, Error> {
+) -> Result<String, BadCase> {
     match layer {
         "ring" => ring::line(alloc, call, case),
         "rns" => rns::line(alloc, call, case),
@@ -61,7 +61,7 @@ fn line_of<R: Threads + Sync>(
         "tfidf" => tfidf::line(alloc, call, case),
         "pack" => pack::line(alloc, call, case),
         "library" => library::line(alloc, call, case),
-        _ => bail!("no such layer"),
+        _ => Err(BadCase::Unfit),
     }
 }
 
@@ -76,8 +76,10 @@ fn run(rt: &HostRuntime, layer: &str) -> Result<(), Error> {
     for (number, fields) in cases.iter().enumerate() {
         let case = Case::new(fields);
         let call = case.text("call");
-        let line = line_of(rt, rt.alloc(), layer, call, case)?;
-        println!(rt; "{layer} {number} {call}{line}")?;
+        match line_of(rt, rt.alloc(), layer, call, case) {
+            Ok(line) => println!(rt; "{layer} {number} {call}{line}")?,
+            Err(_) => println!(rt; "{layer} {number} {call}: no line")?,
+        }
     }
     Ok(())
 }

@@ -7,10 +7,9 @@ ghost use Rattle.co_bfv.specs.Ciphertexts.{ciphertext_degree};
 ghost use Rattle.co_matvec.specs.Weights.{AreEntries, Precedes, keyword_blocks};
 
 use crate::bfv::put_opened_slots;
-use crate::cases::Case;
+use crate::cases::{BadCase, Case};
 use crate::lines::put_ciphers;
 use crate::switch::{degree_of_keys, tested};
-use anyhow::{Error, bail};
 use co_bfv::{Cipher, Secret, encrypt, sample_secret};
 use co_board::OpenGate;
 use co_matvec::{Weights, score};
@@ -27,12 +26,12 @@ pub fn line<R: Threads + Sync>(
     alloc: Global,
     call: &str,
     case: Case,
-) -> Result<String, Error> {
+) -> Result<String, BadCase> {
     let mut line = String::new(alloc);
     match call {
         "score" => put_scores(rt, alloc, &mut line, case, true)?,
         "slots" => put_scores(rt, alloc, &mut line, case, false)?,
-        _ => bail!("no such call"),
+        _ => return Err(BadCase::Unfit),
     }
     Ok(line)
 }
@@ -95,14 +94,14 @@ fn are_entries(documents: u32, terms: u32, entries: &[(u32, u32, u16)]) -> bool
     are_within(documents, terms, entries) && ascend(entries)
 }
 
-fn weights(alloc: Global, degree: Degree, case: Case) -> Result<Weights, Error>
+fn weights(alloc: Global, degree: Degree, case: Case) -> Result<Weights, BadCase>
     ensures { IfOk result (λ w. w.degree ≡ degree) }
 {
     let entries = entries(alloc, case)?;
     let documents = case.number("documents");
     let terms = case.number("terms");
     if !are_entries(documents, terms, &entries) {
-        bail!("no weights");
+        return Err(BadCase::Unfit);
     }
     Ok(Weights::new(alloc, degree, documents, terms, &entries)?)
 }
@@ -161,7 +160,7 @@ fn put_scores<R: Threads + Sync>(
     line: &mut String,
     case: Case,
     with_digests: bool,
-) -> Result<(), Error> {
+) -> Result<(), BadCase> {
     let tested = tested(case)?;
     let degree = Degree::of(tested.shape().degree() as usize);
     let mut words = SplitMix64::seed_from_u64(case.number("stream") as u64);
@@ -169,7 +168,7 @@ fn put_scores<R: Threads + Sync>(
     let keys = make_keys(alloc, &tested, &secret, &mut words)?;
     let weights = weights(alloc, degree, case)?;
     if degree_of_keys(&keys) != degree.get() as usize {
-        bail!("two degrees");
+        return Err(BadCase::Unfit);
     }
     let keywords = case.numbers(alloc, "keywords")?;
     let blocks = weights.keyword_blocks();

@@ -1,20 +1,19 @@
 //! Shapes, and the bounds of the noise.
 
-use crate::cases::Case;
+use crate::cases::{BadCase, Case};
 use crate::lines::{put, put_text};
-use anyhow::{Error, bail};
 use co_noise::{
     Shape, TestFault, fresh_bound, modulus, retrieve_bound, score_bound, switch_bound, test,
 };
 use std::alloc::{AllocError, Global};
 
-pub fn line(alloc: Global, call: &str, case: Case) -> Result<String, Error> {
+pub fn line(alloc: Global, call: &str, case: Case) -> Result<String, BadCase> {
     let mut line = String::new(alloc);
     match call {
         "shape" => put_shape(&mut line, case)?,
         "bounds" => put_bounds(&mut line, case)?,
         "test" => put_test(&mut line, case)?,
-        _ => bail!("no such call"),
+        _ => return Err(BadCase::Unfit),
     }
     Ok(line)
 }
@@ -33,7 +32,7 @@ fn shape(case: Case) -> Option<Shape> {
 }
 
 /// The numbers that follow from a shape.
-fn put_shape(line: &mut String, case: Case) -> Result<(), Error> {
+fn put_shape(line: &mut String, case: Case) -> Result<(), BadCase> {
     match shape(case) {
         Some(shape) => {
             put(line, shape.keyword_blocks() as u128)?;
@@ -45,9 +44,9 @@ fn put_shape(line: &mut String, case: Case) -> Result<(), Error> {
     Ok(())
 }
 
-fn put_bounds(line: &mut String, case: Case) -> Result<(), Error> {
+fn put_bounds(line: &mut String, case: Case) -> Result<(), BadCase> {
     let Some(shape) = shape(case) else {
-        bail!("no shape");
+        return Err(BadCase::Unfit);
     };
     let degree = shape.degree();
     put(line, fresh_bound())?;
@@ -60,9 +59,9 @@ fn put_bounds(line: &mut String, case: Case) -> Result<(), Error> {
     Ok(())
 }
 
-fn put_test(line: &mut String, case: Case) -> Result<(), Error> {
+fn put_test(line: &mut String, case: Case) -> Result<(), BadCase> {
     let Some(shape) = shape(case) else {
-        bail!("no shape");
+        return Err(BadCase::Unfit);
     };
     put_answer(line, &shape)?;
     Ok(())

@@ -6,10 +6,9 @@ ghost use Rattle.co_bfv.specs.Ciphertexts.{ciphertext_degree};
 ghost use Rattle.co_switch.specs.Keys.{keys_degree};
 
 use crate::bfv::{encrypted, put_opened};
-use crate::cases::Case;
+use crate::cases::{BadCase, Case};
 use crate::lines::{put, put_bytes, put_ciphers, put_text};
 use crate::switch::{degree_of_keys, tested};
-use anyhow::{Error, bail};
 use co_bfv::{Cipher, Secret, encrypt, sample_secret};
 use co_board::OpenGate;
 use co_pir::{Rows, answer, expand, levels, open_reply, query_message};
@@ -26,24 +25,24 @@ pub fn line<R: Threads + Sync>(
     alloc: Global,
     call: &str,
     case: Case,
-) -> Result<String, Error> {
+) -> Result<String, BadCase> {
     let mut line = String::new(alloc);
     match call {
         "query" => put_query(alloc, &mut line, case)?,
         "retrieve" => put_retrieval(rt, alloc, &mut line, case)?,
         "open" => put_opened_reply(alloc, &mut line, case)?,
-        _ => bail!("no such call"),
+        _ => return Err(BadCase::Unfit),
     }
     Ok(line)
 }
 
 /// The coefficients other than 0, each behind its place.
-fn put_query(alloc: Global, line: &mut String, case: Case) -> Result<(), Error> {
+fn put_query(alloc: Global, line: &mut String, case: Case) -> Result<(), BadCase> {
     let degree = case.degree()?;
     let rows = case.number("rows");
     let row = case.number("row");
     if row >= rows || rows > degree.get() {
-        bail!("no row");
+        return Err(BadCase::Unfit);
     }
     let message = query_message(alloc, degree, rows, row)?;
     for k in 0..message.degree() {
@@ -73,13 +72,13 @@ fn put_retrieval<R: Threads + Sync>(
     alloc: Global,
     line: &mut String,
     case: Case,
-) -> Result<(), Error> {
+) -> Result<(), BadCase> {
     let tested = tested(case)?;
     let degree = Degree::of(tested.shape().degree() as usize);
     let rows = case.number("rows");
     let row = case.number("row");
     if row >= rows || rows > degree.get() {
-        bail!("no row");
+        return Err(BadCase::Unfit);
     }
     let mut words = SplitMix64::seed_from_u64(case.number("stream") as u64);
     let secret = sample_secret(alloc, degree, &mut words)?;
@@ -99,13 +98,13 @@ fn put_expansion(
     secret: &Secret,
     keys: &KeySet,
     query: &Cipher,
-) -> Result<(), Error>
+) -> Result<(), BadCase>
     requires some { 1 ≤ rows }
     requires few { rows ≤ 4096 }
     requires rows { rows ≤ ciphertext_degree query.now }
 {
     if !suffices(keys, query.degree(), rows) {
-        bail!("too few keys");
+        return Err(BadCase::Unfit);
     }
     let ciphers = expand(alloc, query, keys, rows, &mut Steps::begin())?;
     for cipher in &ciphers {
@@ -125,16 +124,16 @@ fn put_reply<R: Threads + Sync>(
     secret: &Secret,
     keys: &KeySet,
     query: &Cipher,
-) -> Result<(), Error> {
+) -> Result<(), BadCase> {
     let rows = case.number("rows");
     let chunks = case.number("chunks");
     let bytes = case.bytes(alloc, "bytes")?;
     let n = query.degree();
     if rows == 0 || rows as usize > n || chunks > 4096 || n != secret.degree() {
-        bail!("no table");
+        return Err(BadCase::Unfit);
     }
     if bytes.len() != rows as usize * (chunks as usize * (2 * n)) || !suffices(keys, n, rows) {
-        bail!("no table");
+        return Err(BadCase::Unfit);
     }
     let table = Rows::new(alloc, Degree::of(n), rows, chunks, &bytes)?;
     let reply = answer(
@@ -157,11 +156,11 @@ fn put_bytes_of(
     line: &mut String,
     secret: &Secret,
     reply: &[Cipher],
-) -> Result<(), Error>
+) -> Result<(), BadCase>
     requires { All (λ c. ciphertext_degree c ≡ length secret.now) reply.now }
 {
     if secret.degree() > 4096 || reply.len() > 4096 {
-        bail!("no reply");
+        return Err(BadCase::Unfit);
     }
     match open_reply(alloc, secret, reply) {
         Ok(bytes) => put_bytes(alloc, line, bytes.as_slice())?,
@@ -169,13 +168,13 @@ fn put_bytes_of(
             put_text(line, "not byte")?;
             put(line, place as u128)?;
         }
-        Err(ByteFault::OutOfMemory) => bail!("out of memory"),
+        Err(ByteFault::OutOfMemory) => return Err(BadCase::OutOfMemory),
     }
     Ok(())
 }
 
 /// The bytes of a reply of two ciphertexts, of given messages.
-fn put_opened_reply(alloc: Global, line: &mut String, case: Case) -> Result<(), Error> {
+fn put_opened_reply(alloc: Global, line: &mut String, case: Case) -> Result<(), BadCase> {
     let mut words = SplitMix64::seed_from_u64(case.number("stream") as u64);
     let secret = sample_secret(alloc, case.degree()?, &mut words)?;
     let first = encrypted(alloc, case, "first", &secret, &mut words)?;

@@ -3,13 +3,12 @@
 ghost use Rattle.std.specs.Prelude.{◌≡◌, IfOk};
 ghost use Rattle.co_ring.specs.Polynomials.{degree_of};
 
-use crate::cases::Case;
+use crate::cases::{BadCase, Case};
 use crate::lines::{put, put_poly};
-use anyhow::{Error, bail};
 use co_ring::{Modulus, Poly, Spectrum, Table, forward, inverse};
 use std::alloc::Global;
 
-pub fn line(alloc: Global, call: &str, case: Case) -> Result<String, Error> {
+pub fn line(alloc: Global, call: &str, case: Case) -> Result<String, BadCase> {
     let modulus = case.modulus();
     let mut line = String::new(alloc);
     match call {
@@ -22,13 +21,13 @@ pub fn line(alloc: Global, call: &str, case: Case) -> Result<String, Error> {
         "scale" => put_poly(&mut line, &scaled(alloc, modulus, case)?)?,
         "substitute" => put_poly(&mut line, &substituted(alloc, modulus, case)?)?,
         "shift" => put_poly(&mut line, &shifted(alloc, modulus, case)?)?,
-        _ => bail!("no such call"),
+        _ => return Err(BadCase::Unfit),
     }
     Ok(line)
 }
 
 /// Two polynomials of one degree.
-fn both(alloc: Global, modulus: Modulus, case: Case) -> Result<(Poly, Poly), Error>
+fn both(alloc: Global, modulus: Modulus, case: Case) -> Result<(Poly, Poly), BadCase>
     ensures first_modulus { IfOk result (λ p. p.0.modulus ≡ modulus) }
     ensures second_modulus { IfOk result (λ p. p.1.modulus ≡ modulus) }
     ensures one_degree { IfOk result (λ p. degree_of p.1 ≡ degree_of p.0) }
@@ -36,38 +35,38 @@ fn both(alloc: Global, modulus: Modulus, case: Case) -> Result<(Poly, Poly), Err
     let a = case.poly(alloc, modulus, "a")?;
     let b = case.poly(alloc, modulus, "b")?;
     if a.degree() != b.degree() {
-        bail!("two degrees");
+        return Err(BadCase::Unfit);
     }
     Ok((a, b))
 }
 
-fn product(alloc: Global, modulus: Modulus, case: Case) -> Result<Poly, Error> {
+fn product(alloc: Global, modulus: Modulus, case: Case) -> Result<Poly, BadCase> {
     let (a, b) = both(alloc, modulus, case)?;
     Ok(a.mul(alloc, &b)?)
 }
 
-fn scaled(alloc: Global, modulus: Modulus, case: Case) -> Result<Poly, Error> {
+fn scaled(alloc: Global, modulus: Modulus, case: Case) -> Result<Poly, BadCase> {
     let mut a = case.poly(alloc, modulus, "a")?;
     a.scale(case.text("factor").parse().unwrap_or(0));
     Ok(a)
 }
 
-fn substituted(alloc: Global, modulus: Modulus, case: Case) -> Result<Poly, Error> {
+fn substituted(alloc: Global, modulus: Modulus, case: Case) -> Result<Poly, BadCase> {
     let a = case.poly(alloc, modulus, "a")?;
     let g = case.number("g");
     if g % 2 == 0 || g as usize >= 2 * a.degree() {
-        bail!("no Galois element");
+        return Err(BadCase::Unfit);
     }
     let mut into = Poly::zero(alloc, modulus, a.shape())?;
     a.substitute(g, &mut into);
     Ok(into)
 }
 
-fn shifted(alloc: Global, modulus: Modulus, case: Case) -> Result<Poly, Error> {
+fn shifted(alloc: Global, modulus: Modulus, case: Case) -> Result<Poly, BadCase> {
     let a = case.poly(alloc, modulus, "a")?;
     let exponent = case.number("exponent");
     if exponent as usize >= 2 * a.degree() {
-        bail!("no exponent");
+        return Err(BadCase::Unfit);
     }
     let mut into = Poly::zero(alloc, modulus, a.shape())?;
     a.monomial_mul(exponent, &mut into);
@@ -75,7 +74,7 @@ fn shifted(alloc: Global, modulus: Modulus, case: Case) -> Result<Poly, Error> {
 }
 
 /// The sum, or the difference.
-fn sum(alloc: Global, modulus: Modulus, case: Case, negated: bool) -> Result<Poly, Error> {
+fn sum(alloc: Global, modulus: Modulus, case: Case, negated: bool) -> Result<Poly, BadCase> {
     let (mut a, b) = both(alloc, modulus, case)?;
     if negated {
         a.sub_in(&b);
@@ -86,7 +85,12 @@ fn sum(alloc: Global, modulus: Modulus, case: Case, negated: bool) -> Result<Pol
 }
 
 /// The values of a polynomial, and the polynomial back from them.
-fn put_values(alloc: Global, line: &mut String, modulus: Modulus, case: Case) -> Result<(), Error> {
+fn put_values(
+    alloc: Global,
+    line: &mut String,
+    modulus: Modulus,
+    case: Case,
+) -> Result<(), BadCase> {
     let a = case.poly(alloc, modulus, "a")?;
     let table = Table::new(alloc, modulus, a.shape())?;
     let mut values = Spectrum::zero(alloc, modulus, a.shape())?;

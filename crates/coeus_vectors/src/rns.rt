@@ -2,15 +2,14 @@
 
 ghost use Rattle.std.specs.Prelude.{◌≡◌, length, IfOk};
 
-use crate::cases::Case;
+use crate::cases::{BadCase, Case};
 use crate::lines::{put_pair, put_poly};
-use anyhow::{Error, bail};
 use co_math::parameters::DIGIT_COUNT;
 use co_ring::{Degree, Modulus};
 use co_rns::{Pair, PairSpectrum, Tables, from_spectrum, to_spectrum};
 use std::alloc::Global;
 
-pub fn line(alloc: Global, call: &str, case: Case) -> Result<String, Error> {
+pub fn line(alloc: Global, call: &str, case: Case) -> Result<String, BadCase> {
     let mut line = String::new(alloc);
     match call {
         "split" => put_parts(alloc, &mut line, case)?,
@@ -23,30 +22,30 @@ pub fn line(alloc: Global, call: &str, case: Case) -> Result<String, Error> {
         "shift" => put_pair(&mut line, &shifted(alloc, case)?)?,
         "add" => put_pair(&mut line, &sum(alloc, case, false)?)?,
         "sub" => put_pair(&mut line, &sum(alloc, case, true)?)?,
-        _ => bail!("no such call"),
+        _ => return Err(BadCase::Unfit),
     }
     Ok(line)
 }
 
 /// The residues modulo q1, and then those modulo q2.
-fn put_parts(alloc: Global, line: &mut String, case: Case) -> Result<(), Error> {
+fn put_parts(alloc: Global, line: &mut String, case: Case) -> Result<(), BadCase> {
     let a = case.pair(alloc, "a")?;
     put_poly(line, a.first())?;
     put_poly(line, a.second())?;
     Ok(())
 }
 
-fn joined(alloc: Global, case: Case) -> Result<Pair, Error> {
+fn joined(alloc: Global, case: Case) -> Result<Pair, BadCase> {
     let first = case.poly(alloc, Modulus::First, "first")?;
     let second = case.poly(alloc, Modulus::Second, "second")?;
     if first.degree() != second.degree() {
-        bail!("two degrees");
+        return Err(BadCase::Unfit);
     }
     Ok(Pair::from_parts(first, second))
 }
 
 /// The lowest digits of all coefficients, then the next ones.
-fn put_digits(alloc: Global, line: &mut String, case: Case) -> Result<(), Error> {
+fn put_digits(alloc: Global, line: &mut String, case: Case) -> Result<(), BadCase> {
     let a = case.pair(alloc, "a")?;
     let mut into = Pair::zero(alloc, Degree::of(a.degree()))?;
     for index in 0..DIGIT_COUNT {
@@ -57,24 +56,24 @@ fn put_digits(alloc: Global, line: &mut String, case: Case) -> Result<(), Error>
 }
 
 /// Two polynomials of one degree.
-fn both(alloc: Global, case: Case) -> Result<(Pair, Pair), Error>
+fn both(alloc: Global, case: Case) -> Result<(Pair, Pair), BadCase>
     ensures { IfOk result (λ p. length p.1 ≡ length p.0) }
 {
     let a = case.pair(alloc, "a")?;
     let b = case.pair(alloc, "b")?;
     if a.degree() != b.degree() {
-        bail!("two degrees");
+        return Err(BadCase::Unfit);
     }
     Ok((a, b))
 }
 
-fn product(alloc: Global, case: Case) -> Result<Pair, Error> {
+fn product(alloc: Global, case: Case) -> Result<Pair, BadCase> {
     let (a, b) = both(alloc, case)?;
     Ok(a.mul(alloc, &b)?)
 }
 
 /// The product, back from the products of values.
-fn product_by_values(alloc: Global, case: Case) -> Result<Pair, Error> {
+fn product_by_values(alloc: Global, case: Case) -> Result<Pair, BadCase> {
     let (a, b) = both(alloc, case)?;
     let degree = Degree::of(a.degree());
     let tables = Tables::new(alloc, degree)?;
@@ -89,31 +88,31 @@ fn product_by_values(alloc: Global, case: Case) -> Result<Pair, Error> {
     Ok(back)
 }
 
-fn plain_product(alloc: Global, case: Case) -> Result<Pair, Error> {
+fn plain_product(alloc: Global, case: Case) -> Result<Pair, BadCase> {
     let a = case.pair(alloc, "a")?;
     let plain = case.poly(alloc, Modulus::Plain, "plain")?;
     if a.degree() != plain.degree() {
-        bail!("two degrees");
+        return Err(BadCase::Unfit);
     }
     Ok(a.mul_plain(alloc, &plain)?)
 }
 
-fn substituted(alloc: Global, case: Case) -> Result<Pair, Error> {
+fn substituted(alloc: Global, case: Case) -> Result<Pair, BadCase> {
     let a = case.pair(alloc, "a")?;
     let g = case.number("g");
     if g % 2 == 0 || g as usize >= 2 * a.degree() {
-        bail!("no Galois element");
+        return Err(BadCase::Unfit);
     }
     let mut into = Pair::zero(alloc, Degree::of(a.degree()))?;
     a.substitute(g, &mut into);
     Ok(into)
 }
 
-fn shifted(alloc: Global, case: Case) -> Result<Pair, Error> {
+fn shifted(alloc: Global, case: Case) -> Result<Pair, BadCase> {
     let a = case.pair(alloc, "a")?;
     let exponent = case.number("exponent");
     if exponent as usize >= 2 * a.degree() {
-        bail!("no exponent");
+        return Err(BadCase::Unfit);
     }
     let mut into = Pair::zero(alloc, Degree::of(a.degree()))?;
     a.monomial_mul(exponent, &mut into);
@@ -121,7 +120,7 @@ fn shifted(alloc: Global, case: Case) -> Result<Pair, Error> {
 }
 
 /// The sum, or the difference.
-fn sum(alloc: Global, case: Case, negated: bool) -> Result<Pair, Error> {
+fn sum(alloc: Global, case: Case, negated: bool) -> Result<Pair, BadCase> {
     let (mut a, b) = both(alloc, case)?;
     if negated {
         a.sub_in(&b);

@@ -5,10 +5,9 @@ ghost use Rattle.co_bfv.specs.Ciphertexts.{ciphertext_degree};
 ghost use Rattle.co_switch.specs.Keys.{keys_degree};
 
 use crate::bfv::put_opened_slots;
-use crate::cases::Case;
+use crate::cases::{BadCase, Case};
 use crate::lines::{put, put_ciphers};
 use crate::switch::{degree_of_keys, tested};
-use anyhow::{Error, bail};
 use co_bfv::{Cipher, encrypt, sample_secret};
 use co_ring::{Degree, Modulus};
 use co_rot::{Visitor, crown, parent, subtree_count, subtree_size, walk_subtree};
@@ -18,17 +17,17 @@ use rand_core::SeedableRng;
 use rand_xoshiro::SplitMix64;
 use std::alloc::{AllocError, Global};
 
-pub fn line(alloc: Global, call: &str, case: Case) -> Result<String, Error> {
+pub fn line(alloc: Global, call: &str, case: Case) -> Result<String, BadCase> {
     let mut line = String::new(alloc);
     match call {
         "parents" => put_parents(alloc, &mut line, case)?,
         "rotations" => put_rotations(alloc, &mut line, case)?,
-        _ => bail!("no such call"),
+        _ => return Err(BadCase::Unfit),
     }
     Ok(line)
 }
 
-fn put_parents(alloc: Global, line: &mut String, case: Case) -> Result<(), Error> {
+fn put_parents(alloc: Global, line: &mut String, case: Case) -> Result<(), BadCase> {
     for number in case.numbers(alloc, "of")?.iter() {
         if *number > 0 {
             put(line, parent(*number) as u128)?;
@@ -78,7 +77,7 @@ fn walk_all<V: Visitor>(
 }
 
 /// The rotations of the encryption of some slots: of each the digest, and the slots that it opens to.
-fn put_rotations(alloc: Global, line: &mut String, case: Case) -> Result<(), Error> {
+fn put_rotations(alloc: Global, line: &mut String, case: Case) -> Result<(), BadCase> {
     let tested = tested(case)?;
     let degree = Degree::of(tested.shape().degree() as usize);
     let mut words = SplitMix64::seed_from_u64(case.number("stream") as u64);
@@ -86,7 +85,7 @@ fn put_rotations(alloc: Global, line: &mut String, case: Case) -> Result<(), Err
     let keys = make_keys(alloc, &tested, &secret, &mut words)?;
     let slots = case.residues(alloc, Modulus::Plain, "slots")?;
     if slots.len() != degree.get() as usize || degree_of_keys(&keys) != degree.get() as usize {
-        bail!("two degrees");
+        return Err(BadCase::Unfit);
     }
     let plain = encode_slots(alloc, degree, &slots)?;
     let query = encrypt(alloc, &secret, &plain, &mut words)?;

@@ -4,9 +4,8 @@
 ghost use Rattle.rand_core.specs.Steps.{stream_of, steps_u64_low};
 ghost use Rattle.coeus_vectors.specs.Given.{next_of};
 
-use crate::cases::Case;
+use crate::cases::{BadCase, Case};
 use crate::{bfv, switch};
-use anyhow::Error;
 use rand_core::utils::NextWord;
 use rand_core::{Rng, SeedableRng, utils};
 use rand_xoshiro::SplitMix64;
@@ -95,7 +94,7 @@ pub fn skip<R: Rng>(rng: &mut R, words: u32) {
 }
 
 /// The line of a case whose words come from its stream.
-pub fn line(alloc: Global, layer: &str, call: &str, case: Case) -> Result<String, Error> {
+pub fn line(alloc: Global, layer: &str, call: &str, case: Case) -> Result<String, BadCase> {
     match case.text("stream") {
         "given" => {
             let words = case.words(alloc, "words")?;
@@ -114,7 +113,7 @@ fn line_of<R: Stand>(
     call: &str,
     case: Case,
     rng: &mut R,
-) -> Result<String, Error> {
+) -> Result<String, BadCase> {
     match layer {
         "bfv" => bfv::line(alloc, call, case, rng),
         _ => switch::line(alloc, call, case, rng),

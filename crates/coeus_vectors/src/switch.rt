@@ -4,10 +4,9 @@ ghost use Rattle.std.specs.Prelude.{◌≡◌, ◌<◌, length, IfOk};
 ghost use Rattle.co_switch.specs.Keys.{key_degree, keys_degree};
 
 use crate::bfv::{encrypted, put_opened};
-use crate::cases::Case;
+use crate::cases::{BadCase, Case};
 use crate::lines::{put, put_digest, put_pair, put_text, spell_pair};
 use crate::streams::{Stand, skip};
-use anyhow::{Error, bail};
 use co_bfv::{Secret, sample_secret};
 use co_math::parameters::DIGIT_COUNT;
 use co_noise::{Shape, Tested};
@@ -16,32 +15,47 @@ use co_switch::{GaloisKey, KeySet, Steps, apply, make_key, make_keys};
 use rand_core::Rng;
 use std::alloc::{AllocError, Global};
 
-pub fn line<R: Stand>(alloc: Global, call: &str, case: Case, rng: &mut R) -> Result<String, Error> {
+pub fn line<R: Stand>(
+    alloc: Global,
+    call: &str,
+    case: Case,
+    rng: &mut R,
+) -> Result<String, BadCase> {
     let mut line = String::new(alloc);
     match call {
         "key" => put_key(alloc, &mut line, case, rng)?,
         "switch" => put_switch(alloc, &mut line, case, rng)?,
         "keys" => put_keys(alloc, &mut line, case, rng, true)?,
         "elements" => put_keys(alloc, &mut line, case, rng, false)?,
-        _ => bail!("no such call"),
+        _ => return Err(BadCase::Unfit),
     }
     put(&mut line, rng.stand() as u128)?;
     Ok(line)
 }
 
 /// A key, for a secret with so many coefficients.
-fn key<R: Rng>(alloc: Global, case: Case, secret: &Secret, rng: &mut R) -> Result<GaloisKey, Error>
+fn key<R: Rng>(
+    alloc: Global,
+    case: Case,
+    secret: &Secret,
+    rng: &mut R,
+) -> Result<GaloisKey, BadCase>
     ensures { IfOk result (λ k. key_degree k ≡ length secret.now) }
 {
     let element = case.number("element");
     if element % 2 == 0 || element as usize >= 2 * secret.degree() {
-        bail!("no Galois element");
+        return Err(BadCase::Unfit);
     }
     Ok(make_key(alloc, secret, element, rng)?)
 }
 
 /// The first pair of a key, and the digest of the others.
-fn put_key<R: Rng>(alloc: Global, line: &mut String, case: Case, rng: &mut R) -> Result<(), Error> {
+fn put_key<R: Rng>(
+    alloc: Global,
+    line: &mut String,
+    case: Case,
+    rng: &mut R,
+) -> Result<(), BadCase> {
     let secret = sample_secret(alloc, case.degree()?, rng)?;
     skip(rng, case.number("skip"));
     let key = key(alloc, case, &secret, rng)?;
@@ -68,7 +82,7 @@ fn put_switch<R: Rng>(
     line: &mut String,
     case: Case,
     rng: &mut R,
-) -> Result<(), Error> {
+) -> Result<(), BadCase> {
     let secret = sample_secret(alloc, case.degree()?, rng)?;
     skip(rng, case.number("skip"));
     let cipher = encrypted(alloc, case, "message", &secret, rng)?;
@@ -80,7 +94,7 @@ fn put_switch<R: Rng>(
 }
 
 /// The shape of a case, with one document and term where it has none.
-pub fn tested(case: Case) -> Result<Tested, Error> {
+pub fn tested(case: Case) -> Result<Tested, BadCase> {
     let shape = Shape::new(
         case.number("degree"),
         case.number("documents").max(1),
@@ -92,11 +106,11 @@ pub fn tested(case: Case) -> Result<Tested, Error> {
         1,
     );
     let Some(shape) = shape else {
-        bail!("no shape");
+        return Err(BadCase::Unfit);
     };
     match co_noise::test(&shape) {
         Ok(tested) => Ok(tested),
-        Err(_) => bail!("no room for the noise"),
+        Err(_) => return Err(BadCase::Unfit),
     }
 }
 
@@ -107,7 +121,7 @@ fn put_keys<R: Rng>(
     case: Case,
     rng: &mut R,
     with_digest: bool,
-) -> Result<(), Error> {
+) -> Result<(), BadCase> {
     let tested = tested(case)?;
     let degree = Degree::of(tested.shape().degree() as usize);
     let secret = sample_secret(alloc, degree, rng)?;

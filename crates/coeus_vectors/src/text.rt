@@ -1,18 +1,17 @@
 //! The terms of a text, and of a query.
 
-use crate::cases::Case;
+use crate::cases::{BadCase, Case};
 use crate::lines::{put, put_text};
-use anyhow::{Error, bail};
 use co_text::{QueryFault, Terms, all_terms, distinct_terms, query_terms};
 use std::alloc::{AllocError, Global};
 
-pub fn line(alloc: Global, call: &str, case: Case) -> Result<String, Error> {
+pub fn line(alloc: Global, call: &str, case: Case) -> Result<String, BadCase> {
     let mut line = String::new(alloc);
     match call {
         "terms" => put_terms(&mut line, &all_terms(alloc, case.text("text"))?)?,
         "distinct" => put_distinct(alloc, &mut line, case)?,
         "query" => put_query(alloc, &mut line, case)?,
-        _ => bail!("no such call"),
+        _ => return Err(BadCase::Unfit),
     }
     Ok(line)
 }
@@ -30,14 +29,14 @@ fn put_distinct(alloc: Global, line: &mut String, case: Case) -> Result<(), Allo
 }
 
 /// The distinct terms, or how many they are, where they are too many.
-fn put_query(alloc: Global, line: &mut String, case: Case) -> Result<(), Error> {
+fn put_query(alloc: Global, line: &mut String, case: Case) -> Result<(), BadCase> {
     match query_terms(alloc, case.text("text")) {
         Ok(terms) => put_terms(line, &terms)?,
         Err(QueryFault::TooManyKeywords { found }) => {
             put_text(line, "too many:")?;
             put(line, found as u128)?;
         }
-        Err(QueryFault::OutOfMemory) => bail!("out of memory"),
+        Err(QueryFault::OutOfMemory) => return Err(BadCase::OutOfMemory),
     }
     Ok(())
 }
