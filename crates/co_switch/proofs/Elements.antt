@@ -1,15 +1,10 @@
 -- How many keys a set has, and their Galois elements.
-use Rattle.std.proofs.Common.{◌≡◌, ℕ, zero, suc, ◌+◌, ◌*◌, ◌-◌, ◌/◌, ◌%◌, ◌^◌, ◌<◌, ◌≤◌, Bool, true, false, refl, sym, ap, subst, ◌∙◌, ⊎_elim, arith, max}
+use Rattle.std.proofs.Common.{◌≡◌, ℕ, zero, suc, ◌+◌, ◌*◌, ◌-◌, ◌/◌, ◌%◌, ◌^◌, ◌<◌, ◌≤◌, refl, sym, ap, ◌∙◌, arith}
 use Rattle.std.proofs.Math.Nat.{div-add-mod', mod-lt, mod-eq_of_lt, mul-div_cancel, div-le_self}
-use Rattle.std.proofs.Math.Pow.{pow-lt}
-use Rattle.std.proofs.lemmas.Bool.{cases_lt, le-leb, leb-true}
 use Rattle.std.proofs.lemmas.Nat.{pow-add, pow_pos, mul-mod_first}
-use Rattle.std.specs.Prelude.{nat_le}
-use mathlib.Core.Bool.{true≢false}
-use Rattle.co_math.specs.Parameters.{least_exponent, most_exponent}
 use Rattle.co_math.specs.Coefficients.{IsDegree}
-use Rattle.co_noise.specs.Shapes.{Numbers, levels, HasRanges}
-use Rattle.co_math.specs.Logarithms.{least, log2_up}
+use Rattle.co_noise.specs.Shapes.{Numbers, levels}
+use Rattle.co_math.specs.Logarithms.{log2_up}
 use Rattle.co_math.proofs.Logarithms.{log2_up-le, log2_up-pow}
 use Rattle.co_noise.specs.Bounds.{HasRoom}
 use Rattle.co_switch.specs.Keys.{rotation_element, expansion_element}

@@ -1,5 +1,5 @@
 -- Drawn keys: their degree, and that they are good for the secret.
-use Rattle.std.proofs.Common.{◌≡◌, ℕ, zero, suc, ◌+◌, ◌*◌, ◌-◌, ◌%◌, ◌^◌, ◌<◌, ◌≤◌, refl, sym, ap, subst, ◌∙◌, ⊎_elim, arith, ℤ, pos, ◌+ℤ◌, ◌-ℤ◌, ◌*ℤ◌, List, [], ◌∷◌, ◌++◌, length, get_or, All, length-append, add-one}
+use Rattle.std.proofs.Common.{◌≡◌, ℕ, zero, suc, ◌+◌, ◌*◌, ◌%◌, ◌^◌, ◌<◌, ◌≤◌, refl, sym, ap, subst, ◌∙◌, ⊎_elim, arith, ℤ, pos, ◌+ℤ◌, ◌-ℤ◌, ◌*ℤ◌, List, [], ◌∷◌, ◌++◌, length, get_or, All, length-append, add-one}
 use Rattle.std.proofs.lemmas.Bool.{cases_lt}
 use Rattle.std.proofs.lemmas.List.{get_or_append_left}
 use Rattle.std.proofs.Math.Seq.{get_or-append_seam}
@@ -10,7 +10,7 @@ use lib.IntN.{neg_ℤ}
 use Rattle.rand_core.specs.Stream.{Stream}
 use Rattle.co_math.specs.Parameters.{q, digit_base, digit_count, error_bound}
 use Rattle.co_math.specs.Residues.{Congruent}
-use Rattle.co_math.specs.Coefficients.{coefficients, AreResidues, IsDegree, residues_of, signed_coefficients}
+use Rattle.co_math.specs.Coefficients.{coefficients, AreBelow, AreResidues, IsDegree, residues_of, signed_coefficients}
 use Rattle.co_math.specs.Polynomials.{IsWrapped, product, plus, minus, scaled, substituted, substitution}
 use Rattle.co_math.specs.Meanings.{centred, phase}
 use Rattle.co_math.proofs.Integers.{linear, expand, mul_assoc}
@@ -19,25 +19,27 @@ use Rattle.co_math.proofs.Meanings.{centred-least}
 use Rattle.co_math.proofs.Polynomials.{product-IsWrapped}
 use Rattle.co_math.proofs.Places.{coefficients-IsWrapped}
 use Rattle.co_math.proofs.Agreements.{Agree, product_agree}
-use Rattle.co_bfv.specs.Secrets.{IsSecret}
-use Rattle.co_bfv.specs.Draws.{uniform_draw, error_draw, coefficient_draw, noise_draw}
-use Rattle.co_bfv.proofs.Drawn.{length-drawn, errors_small}
+use Rattle.co_bfv.specs.Draws.{uniform_draw, error_draw}
+use Rattle.co_rns.specs.Pairs.{IsWhole}
 use Rattle.co_math.proofs.Degrees.{degree_positive}
-use Rattle.co_math.proofs.Residue_lists.{residues_of-are, residues_of-is, residues_of-agree, length-residues_of, signed-IsWrapped, signed-small, residues_of-same, residues_of-at}
-use Rattle.co_math.proofs.Wrapped.{plus-IsWrapped, minus-IsWrapped}
+use Rattle.co_math.proofs.Residue_lists.{residues_of-is, residues_of-agree, residues_of-below, length-residues_of, signed-IsWrapped, signed-small, residues_of-same, residues_of-at}
+use Rattle.co_math.proofs.Wrapped.{plus-IsWrapped, minus-IsWrapped, scaled-IsWrapped}
 use Rattle.co_switch.specs.Keys.{Key, IsKey, IsGoodKey, part, key_degree}
-use Rattle.co_switch.specs.Switches.{carried}
+use Rattle.co_switch.specs.Switches.{automorphism}
 use Rattle.co_switch.specs.Draws.{hidden, pairs_draw, key_draw}
 use Rattle.co_math.proofs.Substituting.{Inverse, inverse_of, substitution-is, substitution-IsWrapped}
-use Rattle.co_switch.proofs.Drawing.{length-uniform, length-error, error-small}
+use Rattle.co_switch.proofs.Drawing.{length-uniform, length-error, error-small, uniform-IsWhole}
 
 length-hidden : (secret : List ℤ) (g j : ℕ) (a : List ℕ) (e : List ℤ) → length (hidden secret g j a e) ≡ length secret
 unfolding hidden
 length-hidden secret g j a e = length-residues_of q (length secret) (plus (minus (signed_coefficients e) (product (length secret) (coefficients a) (signed_coefficients secret))) (scaled (pos (digit_base ^ j)) (substitution (length secret) g (signed_coefficients secret))))
 
-scaled-IsWrapped : (n : ℕ) (x : ℤ) (a : ℤ → ℤ) → IsWrapped n a → IsWrapped n (scaled x a)
-unfolding scaled
-scaled-IsWrapped n x a w k = ap (λ y. x *ℤ y) (w k) ∙ simp expand
+hidden-below : (secret : List ℤ) (g j : ℕ) (a : List ℕ) (e : List ℤ) → AreBelow q (hidden secret g j a e)
+unfolding hidden
+hidden-below secret g j a e = residues_of-below q (length secret) (plus (minus (signed_coefficients e) (product (length secret) (coefficients a) (signed_coefficients secret))) (scaled (pos (digit_base ^ j)) (substitution (length secret) g (signed_coefficients secret)))) (omega arith)
+
+hidden-IsWhole : (secret : List ℤ) (g j : ℕ) (a : List ℕ) (e : List ℤ) → IsDegree (length secret) → IsWhole (hidden secret g j a e)
+hidden-IsWhole secret g j a e d = record { degree = subst IsDegree (sym (length-hidden secret g j a e)) d; below = hidden-below secret g j a e }
 
 -- ---- the polynomials that hide W^j * s(X^g)
 
@@ -55,9 +57,9 @@ module _ (secret : List ℤ) (g : ℕ) (d : IsDegree (length secret)) (odd : g %
   turned = substitution-IsWrapped (length secret) g z odd inverse (signed_coefficients secret) ws
 
   -- the substitution of the secret's residues
-  pub carried_secret : carried g (residues_of q (length secret) (signed_coefficients secret)) ≡ residues_of q (length secret) (substitution (length secret) g (signed_coefficients secret))
-  unfolding carried substituted
-  carried_secret =
+  pub automorphism_of_secret : automorphism g (residues_of q (length secret) (signed_coefficients secret)) ≡ residues_of q (length secret) (substitution (length secret) g (signed_coefficients secret))
+  unfolding automorphism substituted
+  automorphism_of_secret =
       let xs = residues_of q (length secret) (signed_coefficients secret) in
       let agree = residues_of-agree q (length secret) (signed_coefficients secret) (omega arith) z ws in
       (λ t. residues_of q (length-residues_of q (length secret) (signed_coefficients secret) t) (substitution (length-residues_of q (length secret) (signed_coefficients secret) t) g (coefficients xs)))
@@ -113,19 +115,23 @@ pub record ArePairs (secret : List ℤ) (g i : ℕ) (key : Key) : Type 0 where
   pub k1_count : length key.k1 ≡ i
   pub k0_degree : All (λ p. length p ≡ length secret) key.k0
   pub k1_degree : All (λ p. length p ≡ length secret) key.k1
+  pub k0_whole : All IsWhole key.k0
+  pub k1_whole : All IsWhole key.k1
   pub close : (j : ℕ) → j < i → IsClose secret g j (part key.k0 j) (part key.k1 j)
 
 no_pairs : (secret : List ℤ) (g : ℕ) → ArePairs secret g 0 (record { element = g; k0 = []; k1 = [] })
-no_pairs secret g = record { element = refl; k0_count = refl; k1_count = refl; k0_degree = All-nil (λ p. length p ≡ length secret); k1_degree = All-nil (λ p. length p ≡ length secret); close = λ j l. absurd (omega arith) }
+no_pairs secret g = record { element = refl; k0_count = refl; k1_count = refl; k0_degree = All-nil (λ p. length p ≡ length secret); k1_degree = All-nil (λ p. length p ≡ length secret); k0_whole = All-nil IsWhole; k1_whole = All-nil IsWhole; close = λ j l. absurd (omega arith) }
 
-more_pairs : (secret : List ℤ) (g i : ℕ) (key : Key) (x a : List ℕ) → ArePairs secret g i key → length x ≡ length secret → length a ≡ length secret → IsClose secret g i x a
+more_pairs : (secret : List ℤ) (g i : ℕ) (key : Key) (x a : List ℕ) → ArePairs secret g i key → length x ≡ length secret → length a ≡ length secret → IsWhole x → IsWhole a → IsClose secret g i x a
     → ArePairs secret g (suc i) (record { element = g; k0 = key.k0 ++ x ∷ []; k1 = key.k1 ++ a ∷ [] })
-more_pairs secret g i key x a h lx la close = record {
+more_pairs secret g i key x a h lx la wx wa close = record {
   element = refl;
   k0_count = omega (arith, length-append key.k0 (x ∷ []), h.k0_count);
   k1_count = omega (arith, length-append key.k1 (a ∷ []), h.k1_count);
   k0_degree = All-push (λ p. length p ≡ length secret) key.k0 x h.k0_degree lx;
   k1_degree = All-push (λ p. length p ≡ length secret) key.k1 a h.k1_degree la;
+  k0_whole = All-push IsWhole key.k0 x h.k0_whole wx;
+  k1_whole = All-push IsWhole key.k1 a h.k1_whole wa;
   close = λ j l. ⊎_elim
       (λ u. moved j (get_or_append_left key.k0 (x ∷ []) [] j (omega (arith, h.k0_count))) (get_or_append_left key.k1 (a ∷ []) [] j (omega (arith, h.k1_count))) (h.close j u))
       (λ u. let e : i ≡ j = omega arith in subst (λ (m : ℕ). IsClose secret g m (part (key.k0 ++ x ∷ []) m) (part (key.k1 ++ a ∷ []) m)) e
@@ -144,6 +150,7 @@ pairs_are secret g d odd (suc i) s =
     let a = uniform_draw (length secret) before.1 in
     let e = error_draw (length secret) a.1 in
     more_pairs secret g i before.0 (hidden secret g i a.0 e.0) a.0 (pairs_are secret g d odd i s) (length-hidden secret g i a.0 e.0) (length-uniform (length secret) before.1)
+    (hidden-IsWhole secret g i a.0 e.0 d) (uniform-IsWhole (length secret) before.1 d)
     (hidden_good secret g d odd i a.0 e.0 (length-error (length secret) a.1) (error-small (length secret) a.1))
 
 first-degree : (secret : List ℤ) (g : ℕ) (key : Key) → ArePairs secret g digit_count key → key_degree key ≡ length secret
@@ -170,6 +177,8 @@ key_draw-IsKey secret g s d odd within =
       k1_count = h.k1_count;
       k0_degree = subst (λ (m : ℕ). All (λ p. length p ≡ m) key.k0) (sym e) h.k0_degree;
       k1_degree = subst (λ (m : ℕ). All (λ p. length p ≡ m) key.k1) (sym e) h.k1_degree;
+      k0_whole = h.k0_whole;
+      k1_whole = h.k1_whole;
       odd = ap (λ m. m % 2) h.element ∙ odd;
       within = subst (λ (m : ℕ). m < 2 * key_degree key) (sym h.element) (subst (λ (m : ℕ). g < 2 * m) (sym e) within);
     }
@@ -194,11 +203,11 @@ pub record IsMade (secret : List ℤ) (g i : ℕ) (start now : Stream) (k0 k1 : 
   pub hides : hid ≡ residues_of q (length secret) (scaled (pos (digit_base ^ i)) (substitution (length secret) g (signed_coefficients secret)))
 
 pub nothing_made : (secret : List ℤ) (g : ℕ) (start : Stream) (k0 k1 : List (List ℕ)) (hid : List ℕ) → k0 ≡ [] → k1 ≡ [] → IsDegree (length secret) → g % 2 ≡ 1
-    → hid ≡ carried g (residues_of q (length secret) (signed_coefficients secret)) → IsMade secret g 0 start start k0 k1 hid
+    → hid ≡ automorphism g (residues_of q (length secret) (signed_coefficients secret)) → IsMade secret g 0 start start k0 k1 hid
 unfolding pairs_draw scaled
 nothing_made secret g start k0 k1 hid e₀ e₁ d odd e = record {
   drawn = λ t. (record { element = g; k0 = e₀ t; k1 = e₁ t }, start);
-  hides = e ∙ carried_secret secret g d odd ∙ ap (residues_of q (length secret)) (λ t k. once (substitution (length secret) g (signed_coefficients secret) k) t);
+  hides = e ∙ automorphism_of_secret secret g d odd ∙ ap (residues_of q (length secret)) (λ t k. once (substitution (length secret) g (signed_coefficients secret) k) t);
 }
   where
     once : (x : ℤ) → x ≡ pos (digit_base ^ 0) *ℤ x

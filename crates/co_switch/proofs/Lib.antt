@@ -8,3 +8,4 @@ pub mod Hiding
 pub mod Elements
 pub mod Listing
 pub mod Rising
+pub mod Spectral

@@ -8,10 +8,10 @@ use Rattle.std.proofs.lemmas.List.Elements.{All-nil, All-push, All-get_or}
 use Rattle.rand_core.specs.Stream.{Stream}
 use Rattle.co_math.specs.Coefficients.{IsDegree, signed_coefficients}
 use Rattle.co_math.specs.Logarithms.{log2_up}
-use Rattle.co_switch.specs.Keys.{Key, Keys, IsKey, IsGoodKey, AreKeysOf, AreKeys, AreGoodKeys, key_degree, keys_degree, rotation_element, expansion_element, rotation_key, expansion_key, no_key}
+use Rattle.co_switch.specs.Keys.{Key, Keys, IsKey, IsGoodKey, AreKeysOf, AreKeys, AreGoodKeys, key_degree, keys_degree, rotation_element, expansion_element, no_key}
 use Rattle.co_switch.specs.Draws.{key_draw, keys_draw, key_set_draw}
 use Rattle.co_switch.proofs.Hiding.{degree-key_draw, element-key_draw, key_draw-IsKey, key_draw-good}
-use Rattle.co_switch.proofs.Elements.{Half, half_of, rotation_element-odd, rotation_element-lt, expansion_element-odd, expansion_element-lt}
+use Rattle.co_switch.proofs.Elements.{Half, rotation_element-odd, rotation_element-lt, expansion_element-odd, expansion_element-lt}
 
 -- one more drawn key
 pub keys_more : (secret : List ℤ) (element : ℕ → ℕ) (i : ℕ) (start now later : Stream) (keys more : List Key) (key : Key) (g : ℕ) → (keys, now) ≡ keys_draw secret element i start
@@ -63,6 +63,11 @@ listed n secret element other i keys h e f = record {
   elements = h.elements ∙ (λ t. map (sym f t) (range_with_len 0 (sym h.count t)));
 }
 
+pub record HasCounts (n levels : ℕ) (keys : Keys) : Type 0 where
+  pub rotations : length keys.rotations ≡ log2_up (n / 2)
+  pub expansions : length keys.expansions ≡ levels
+  pub degree : keys_degree keys ≡ n
+
 module _ (secret : List ℤ) (d : IsDegree (length secret)) (levels : ℕ) (h : Half (length secret)) (few : levels ≤ h.exponent + 1) where
   two : 2 ≤ length secret
   two = omega (arith, h.is, pow_pos h.exponent)
@@ -96,6 +101,15 @@ module _ (secret : List ℤ) (d : IsDegree (length secret)) (levels : ℕ) (h : 
       let a = rotations_drawn start in
       let b = expansions_drawn r.1 in
       record { rotations = a.good; expansions = b.good }
+
+  -- how many there are, and of which degree
+  pub key_set_draw-counts : (start : Stream) → HasCounts (length secret) levels (key_set_draw secret levels start).0
+  unfolding key_set_draw
+  key_set_draw-counts start =
+      let r = keys_draw secret (rotation_element (length secret)) (log2_up (length secret / 2)) start in
+      let a = rotations_drawn start in
+      let b = expansions_drawn r.1 in
+      record { rotations = a.count; expansions = b.count; degree = ap (λ m. 2 * 2 ^ m) (a.count ∙ h.log) ∙ sym h.is }
 
 -- ---- for callers: the keys of a set, one by one
 

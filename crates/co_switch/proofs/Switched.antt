@@ -1,12 +1,12 @@
 -- The switch of a ciphertext: its degree, and what it means.
-use Rattle.std.proofs.Common.{◌≡◌, ℕ, ◌+◌, ◌*◌, ◌-◌, ◌^◌, ◌<◌, ◌≤◌, refl, sym, ap, subst, ◌∙◌, arith, ℤ, pos, ◌+ℤ◌, ◌-ℤ◌, ◌*ℤ◌, List, [], length, get_or, All}
+use Rattle.std.proofs.Common.{◌≡◌, ℕ, ◌+◌, ◌*◌, ◌-◌, ◌^◌, ◌<◌, ◌≤◌, refl, sym, ap, subst, ◌∙◌, arith, ℤ, pos, ◌+ℤ◌, ◌-ℤ◌, ◌*ℤ◌, List, [], length, All}
 use Rattle.std.proofs.lemmas.List.Elements.{All-get_or}
 use Rattle.std.specs.Int.RustNames.{unsigned_abs}
 use lib.IntN.{neg_ℤ}
 use Rattle.co_math.specs.Parameters.{q, plain_modulus, digit_base, digit_count, error_bound}
 use Rattle.co_math.specs.Bounds.{switch_bound}
 use Rattle.co_math.specs.Sums.{total}
-use Rattle.co_math.specs.Coefficients.{coefficients, AreBelow, IsDegree, residues_of}
+use Rattle.co_math.specs.Coefficients.{coefficients, IsDegree, residues_of}
 use Rattle.co_math.specs.Polynomials.{IsWrapped, product, plus, substitution}
 use Rattle.co_math.specs.Meanings.{centred, phase, Means}
 use Rattle.co_math.proofs.Totals.{total-same, total-neg}
@@ -17,7 +17,7 @@ use Rattle.co_math.proofs.Degrees.{degree_positive}
 use Rattle.co_math.proofs.Residue_lists.{length-residues_of, residues_of-agree, residues_of-below}
 use Rattle.co_math.proofs.Wrapped.{plus-IsWrapped}
 use Rattle.co_switch.specs.Keys.{Key, IsKey, IsGoodKey, part, key_degree}
-use Rattle.co_switch.specs.Switches.{digit_polynomial, digit_sum, carried, switched}
+use Rattle.co_switch.specs.Switches.{digit_polynomial, digit_sum, automorphism, switched}
 use Rattle.co_math.proofs.Substituting.{inverse_of, substitution-IsWrapped}
 use Rattle.co_switch.proofs.Meaning.{means_alike, means_carried}
 
@@ -30,13 +30,13 @@ part-IsWrapped n ps z e h j l =
     let d = part-degree n ps j e h l in
     subst (λ (k : ℕ). IsWrapped k (coefficients (part ps j))) d (coefficients-IsWrapped (part ps j) (omega (arith, d)))
 
-pub length-carried : (g : ℕ) (xs : List ℕ) → length (carried g xs) ≡ length xs
-unfolding carried
-length-carried g xs = length-residues_of q (length xs) (substitution (length xs) g (coefficients xs))
+pub length-automorphism : (g : ℕ) (xs : List ℕ) → length (automorphism g xs) ≡ length xs
+unfolding automorphism
+length-automorphism g xs = length-residues_of q (length xs) (substitution (length xs) g (coefficients xs))
 
 pub degree-switched : (key : Key) (c : Ciphertext) → ciphertext_degree (switched key c) ≡ ciphertext_degree c
 unfolding switched
-degree-switched key c = length-residues_of q (length c.c0) (plus (substitution (length c.c0) key.element (coefficients c.c0)) (digit_sum (carried key.element c.c1) key.k0))
+degree-switched key c = length-residues_of q (length c.c0) (plus (substitution (length c.c0) key.element (coefficients c.c0)) (digit_sum (automorphism key.element c.c1) key.k0))
 
 -- the sum over digits, over a degree n
 digit_total : ℕ → List ℕ → List (List ℕ) → ℤ → ℤ
@@ -53,7 +53,7 @@ switched_by n key c = record {
 }
 
 switched-by : (n : ℕ) (key : Key) (c : Ciphertext) → length c.c0 ≡ n → length c.c1 ≡ n → switched key c ≡ switched_by n key c
-unfolding switched switched_by digit_sum digit_total carried carried_by
+unfolding switched switched_by digit_sum digit_total automorphism carried_by
 switched-by n key c e₀ e₁ = λ t. record {
   c0 = residues_of q (e₀ t) (plus (substitution (e₀ t) key.element (coefficients c.c0)) (sums key.k0 t));
   c1 = residues_of q (e₀ t) (sums key.k1 t);
@@ -65,7 +65,7 @@ switched-by n key c e₀ e₁ = λ t. record {
     ys : List ℕ
     ys = carried_by n g c.c1
 
-    sums : (ks : List (List ℕ)) → digit_sum (carried g c.c1) ks ≡ digit_total n ys ks
+    sums : (ks : List (List ℕ)) → digit_sum (automorphism g c.c1) ks ≡ digit_total n ys ks
     sums ks =
         ap (λ xs. digit_sum xs ks) (λ t. carried_by (e₁ t) g c.c1)
         ∙ ap (λ l. digit_total l ys ks) (length-residues_of q n (substitution n g (coefficients c.c1)))

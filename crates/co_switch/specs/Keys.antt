@@ -5,6 +5,8 @@ use Rattle.std.specs.List.{range_with_len}
 use Rattle.co_math.specs.Parameters.{q, digit_base, digit_count, error_bound}
 use Rattle.co_math.specs.Coefficients.{coefficients, IsDegree}
 use Rattle.co_math.specs.Meanings.{centred, phase}
+use Rattle.co_rns.specs.Pairs.{IsWhole}
+use Rattle.co_rns.specs.Spectra.{PairValues, IsSpectrumOf, spectrum_degree}
 use Rattle.co_math.specs.Polynomials.{substitution}
 
 -- for the Galois element g, a pair of polynomials modulo q for each digit
@@ -20,15 +22,35 @@ part polynomials j = slice_index_or polynomials j []
 abbrev pub key_degree : Key → ℕ
 key_degree key = length (part key.k0 0)
 
--- a pair for each digit, all of one degree n; the element is odd and below 2n
+-- a pair of polynomials modulo q for each digit, all of one degree n; the element is odd and below 2n
 pub record IsKey (key : Key) : Type 0 where
   pub degree : IsDegree (key_degree key)
   pub k0_count : length key.k0 ≡ digit_count
   pub k1_count : length key.k1 ≡ digit_count
   pub k0_degree : All (λ p. length p ≡ key_degree key) key.k0
   pub k1_degree : All (λ p. length p ≡ key_degree key) key.k1
+  pub k0_whole : All IsWhole key.k0
+  pub k1_whole : All IsWhole key.k1
   pub odd : key.element % 2 ≡ 1
   pub within : key.element < 2 * key_degree key
+
+-- the values of six polynomials of n coefficients, one by one
+pub record AreSpectra (n : ℕ) (polynomials : List (List ℕ)) (values : List PairValues) : Type 0 where
+  pub count : length values ≡ digit_count
+  pub degree : (j : ℕ) → j < digit_count → length (part polynomials j) ≡ n
+  pub each : (j : ℕ) (d : PairValues) → j < digit_count → IsSpectrumOf n (coefficients (part polynomials j)) (slice_index_or values j d)
+
+-- six lists of values, each of n
+pub record AreOfDegree (n : ℕ) (values : List PairValues) : Type 0 where
+  pub count : length values ≡ digit_count
+  pub degree : (j : ℕ) (d : PairValues) → j < digit_count → spectrum_degree (slice_index_or values j d) ≡ n
+
+-- what is kept with a key: tables of its degree, and the values of its polynomials
+pub record IsKept (key : Key) (tables : ℕ) (values0 values1 : List PairValues) : Type 0 where
+  pub whole_key : IsKey key
+  pub tables_degree : tables ≡ key_degree key
+  pub k0_values : AreSpectra tables key.k0 values0
+  pub k1_values : AreSpectra tables key.k1 values1
 
 -- each k0_j + k1_j * s - W^j * s(X^g), centred modulo q, has coefficients in -21..21
 pub record IsGoodKey (s : ℤ → ℤ) (key : Key) : Type 0 where

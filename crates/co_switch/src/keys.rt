@@ -1,38 +1,79 @@
 // Keys for one Galois element.
 
-ghost use Rattle.std.specs.Prelude.{◌≡◌, ◌*◌, ◌%◌, ◌<◌, length, All};
+ghost use Rattle.std.specs.Prelude.{◌≡◌, ◌*◌, ◌%◌, ◌<◌, length, All, IfOk};
 ghost use Rattle.co_math.specs.Parameters.{digit_count};
 ghost use Rattle.co_math.specs.Coefficients.{IsDegree};
-ghost use Rattle.co_switch.specs.Keys.{IsKey, part, key_degree};
+ghost use Rattle.co_switch.specs.Keys.{IsKey, AreSpectra, part, key_degree};
 
-use co_rns::Pair;
+use co_ring::Degree;
+use co_rns::{Pair, PairSpectrum, Tables, to_spectrum};
+use std::alloc::{AllocError, Global};
 use std::marker::Model;
 
-/// A key for X to X^g: a pair of polynomials modulo q for each digit, the lowest digit first.
+/// A key for X to X^g: a pair of polynomials modulo q for each digit, the lowest digit first. Their
+/// values at the roots of -1 and the tables of the transforms are made once and kept: 448 * n bytes
+/// in all.
 #[derive(Drop)]
 pub struct GaloisKey {
     element: u32,
     k0: Vec<Pair>,
     k1: Vec<Pair>,
+    tables: Tables,
+    values0: Vec<PairSpectrum>,
+    values1: Vec<PairSpectrum>,
 }
 
 impl Model for GaloisKey {
-    ghost use Rattle.co_switch.specs.Keys.{Key, IsKey};
+    ghost use Rattle.co_switch.specs.Keys.{Key, IsKept};
 
     ghost Value = { Key };
 
     ghost view = { λ k. record { element = k.element; k0 = k.k0.items; k1 = k.k1.items } };
 
-    ghost invariant = { λ k. IsKey (record { element = k.element; k0 = k.k0.items; k1 = k.k1.items }) };
+    ghost invariant = { λ k. IsKept (record { element = k.element; k0 = k.k0.items; k1 = k.k1.items }) k.tables k.values0.items k.values1.items };
+}
+
+// The values of polynomials of one degree.
+fn spectra(
+    alloc: Global,
+    tables: &Tables,
+    polynomials: &[Pair],
+) -> Result<Vec<PairSpectrum>, AllocError>
+    requires count { length polynomials.now ≡ digit_count }
+    requires one_degree { All (λ p. length p ≡ tables.now) polynomials.now }
+    ensures { IfOk result (λ values. AreSpectra tables.now polynomials.now values.items) }
+{
+    let mut values = Vec::with_capacity(alloc, polynomials.len())?;
+    for index in 0..polynomials.len() {
+        let mut value = PairSpectrum::zero(alloc, tables.degree())?;
+        to_spectrum(tables, &polynomials[index], &mut value);
+        values.push(value)?;
+    }
+    Ok(values)
 }
 
 impl GaloisKey {
     /// The key with these pairs.
-    pub fn from_parts(element: u32, k0: Vec<Pair>, k1: Vec<Pair>) -> GaloisKey
+    pub fn from_parts(
+        alloc: Global,
+        element: u32,
+        k0: Vec<Pair>,
+        k1: Vec<Pair>,
+    ) -> Result<GaloisKey, AllocError>
         requires { IsKey (record { element = element; k0 = k0.items; k1 = k1.items }) }
-        ensures { result ≡ record { element = element; k0 = k0.items; k1 = k1.items } }
+        ensures { IfOk result (λ key. key ≡ record { element = element; k0 = k0.items; k1 = k1.items }) }
     {
-        GaloisKey { element, k0, k1 }
+        let tables = Tables::new(alloc, Degree::of(k0[0].degree()))?;
+        let values0 = spectra(alloc, &tables, &k0)?;
+        let values1 = spectra(alloc, &tables, &k1)?;
+        Ok(GaloisKey {
+            element,
+            k0,
+            k1,
+            tables,
+            values0,
+            values1,
+        })
     }
 
     /// The Galois element g, which is odd.
@@ -65,5 +106,26 @@ impl GaloisKey {
         ensures key { IsKey self.now }
     {
         self.k0[0].degree()
+    }
+
+    /// The tables of the transforms for its degree.
+    pub(crate) fn tables(&self) -> &Tables
+        ensures { result.now ≡ key_degree self.now }
+    {
+        &self.tables
+    }
+
+    /// The values of the first polynomials of its pairs.
+    pub(crate) fn values0(&self) -> &[PairSpectrum]
+        ensures { AreSpectra (key_degree self.now) self.now.k0 result.now }
+    {
+        &self.values0
+    }
+
+    /// The values of the second polynomials of its pairs.
+    pub(crate) fn values1(&self) -> &[PairSpectrum]
+        ensures { AreSpectra (key_degree self.now) self.now.k1 result.now }
+    {
+        &self.values1
     }
 }

@@ -1,4 +1,4 @@
-//! Key switching: moves a ciphertext from s(X^g) back to s, at a cost in noise.
+//! Galois automorphisms of ciphertexts: X to X^g, and a key switch from s(X^g) back to s, at a cost in noise.
 //!
 //! Model: a `GaloisKey` is six pairs of polynomials modulo q for a Galois element g. It is *good* for
 //! a secret s where each pair hides W^j * s(X^g) with an error of at most 21. A `KeySet` is the keys
@@ -8,12 +8,15 @@
 //! (co_wire).
 #![tactic(auto)]
 
+mod galois;
 mod key_sets;
 mod keys;
 mod making;
+mod products;
 mod steps;
 mod switching;
 
+pub use galois::{expansion_element, rotation_element};
 pub use key_sets::KeySet;
 pub use keys::GaloisKey;
 pub use making::{make_key, make_keys};

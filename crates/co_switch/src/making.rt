@@ -3,19 +3,21 @@
 ghost use Rattle.std.specs.Prelude.{◌≡◌, ◌+◌, ◌*◌, ◌/◌, ◌%◌, ◌<◌, ◌≤◌, length, IfOk, OnOk};
 ghost use Rattle.co_math.specs.Parameters.{q};
 ghost use Rattle.co_math.specs.Polynomials.{plus, minus, product};
-ghost use Rattle.co_math.specs.Coefficients.{coefficients, residues_of, signed_coefficients};
+ghost use Rattle.co_math.specs.Coefficients.{coefficients, IsDegree, residues_of, signed_coefficients};
 ghost use Rattle.co_noise.specs.Shapes.{levels};
 ghost use Rattle.co_math.specs.Logarithms.{log2_up};
 ghost use Rattle.co_bfv.specs.Draws.{uniform_draw, error_draw};
-ghost use Rattle.co_switch.specs.Keys.{IsGoodKey, AreGoodKeys, key_degree, rotation_element, expansion_element};
+ghost use Rattle.co_switch.specs.Keys.{IsGoodKey, AreGoodKeys, key_degree, keys_degree};
+ghost use Rattle.co_switch.specs.Keys as elements;
 ghost use Rattle.co_switch.specs.Draws.{key_draw, keys_draw, key_set_draw};
 
+use crate::galois::{expansion_element, rotation_element};
 use crate::key_sets::KeySet;
 use crate::keys::GaloisKey;
-use crate::switching::carry;
+use crate::switching::substitute;
 use co_bfv::{Secret, sample_error, sample_uniform};
-use co_math::parameters::{DIGIT_BASE, DIGIT_COUNT};
 use co_math::log2_up;
+use co_math::parameters::{DIGIT_BASE, DIGIT_COUNT};
 use co_noise::Tested;
 use co_ring::Degree;
 use co_rns::Pair;
@@ -39,16 +41,16 @@ pub fn make_key<R: Rng>(
 {
     let _ = secret.degree();
     let whole = secret.residues(alloc)?;
-    let mut hidden = carry(alloc, &whole, element)?;
-    let mut k0 = Vec::new(alloc);
-    let mut k1 = Vec::new(alloc);
+    let mut hidden = substitute(alloc, &whole, element)?;
+    let mut k0 = Vec::with_capacity(alloc, DIGIT_COUNT as usize)?;
+    let mut k1 = Vec::with_capacity(alloc, DIGIT_COUNT as usize)?;
     for index in 0..DIGIT_COUNT {
         let (first, second) = make_pair(alloc, &whole, &hidden, rng)?;
         k0.push(first)?;
         k1.push(second)?;
         hidden.scale(DIGIT_BASE);
     }
-    Ok(GaloisKey::from_parts(element, k0, k1))
+    Ok(GaloisKey::from_parts(alloc, element, k0, k1)?)
 }
 
 // A uniform polynomial a and an error e: the pair of e - a * s + hidden, and a.
@@ -89,6 +91,9 @@ pub fn make_keys<R: Rng>(
     ensures rest { OnOk result (
         R.stream rng.new ≡ (key_set_draw secret.now (levels tested.now) (R.stream rng.old)).1) }
     ensures good { IfOk result (AreGoodKeys (signed_coefficients secret.now)) }
+    ensures degree { IfOk result (λ keys. keys_degree keys ≡ tested.now.degree) }
+    ensures rotations { IfOk result (λ keys. length keys.rotations ≡ log2_up (tested.now.degree / 2)) }
+    ensures expansions { IfOk result (λ keys. length keys.expansions ≡ levels tested.now) }
 {
     let _ = secret.degree();
     let shape = tested.shape();
@@ -107,30 +112,19 @@ fn make_rotations<R: Rng>(
     rng: &mut R,
 ) -> Result<Vec<GaloisKey>, AllocError>
     requires one_degree { length secret.now ≡ degree }
-    requires least { 16 ≤ degree }
-    requires most { degree ≤ 4096 }
+    requires degree { IsDegree degree }
     ensures value { IfOk result (λ keys. let n = length secret.now in
-        keys.items ≡ (keys_draw secret.now (rotation_element n) (log2_up (n / 2)) (R.stream rng.old)).0) }
+        keys.items ≡ (keys_draw secret.now (elements.rotation_element n) (log2_up (n / 2)) (R.stream rng.old)).0) }
     ensures rest { OnOk result (let n = length secret.now in
-        R.stream rng.new ≡ (keys_draw secret.now (rotation_element n) (log2_up (n / 2)) (R.stream rng.old)).1) }
+        R.stream rng.new ≡ (keys_draw secret.now (elements.rotation_element n) (log2_up (n / 2)) (R.stream rng.old)).1) }
 {
-    let mut keys = Vec::new(alloc);
-    let mut element = 3;
-    for index in 0..log2_up(degree / 2) {
-        let _ = index;
+    let count = log2_up(degree / 2);
+    let mut keys = Vec::with_capacity(alloc, count as usize)?;
+    for index in 0..count {
+        let element = rotation_element(degree, index);
         keys.push(make_key(alloc, secret, element, rng)?)?;
-        element = square(element, 2 * degree);
     }
     Ok(keys)
-}
-
-// The square modulo a small number.
-fn square(element: u32, modulus: u32) -> u32
-    requires reduced { element < modulus }
-    requires small { modulus ≤ 8192 }
-    ensures { result ≡ element * element % modulus }
-{
-    element * element % modulus
 }
 
 // The keys for n / 2^j + 1, in the order of j.
@@ -142,18 +136,16 @@ fn make_expansions<R: Rng>(
     rng: &mut R,
 ) -> Result<Vec<GaloisKey>, AllocError>
     requires one_degree { length secret.now ≡ degree }
-    requires least { 16 ≤ degree }
-    requires most { degree ≤ 4096 }
+    requires degree { IsDegree degree }
     requires few { levels ≤ log2_up (degree / 2) + 1 }
     ensures value { IfOk result (λ keys. let n = length secret.now in
-        keys.items ≡ (keys_draw secret.now (expansion_element n) levels (R.stream rng.old)).0) }
+        keys.items ≡ (keys_draw secret.now (elements.expansion_element n) levels (R.stream rng.old)).0) }
     ensures rest { OnOk result (let n = length secret.now in
-        R.stream rng.new ≡ (keys_draw secret.now (expansion_element n) levels (R.stream rng.old)).1) }
+        R.stream rng.new ≡ (keys_draw secret.now (elements.expansion_element n) levels (R.stream rng.old)).1) }
 {
-    let _ = secret.degree();
-    let mut keys = Vec::new(alloc);
+    let mut keys = Vec::with_capacity(alloc, levels as usize)?;
     for index in 0..levels {
-        let element = (degree >> index) + 1;
+        let element = expansion_element(degree, index);
         keys.push(make_key(alloc, secret, element, rng)?)?;
     }
     Ok(keys)

@@ -21,6 +21,7 @@ impl<L> Model for Steps<L> {
     ghost view = { λ s. s.count };
 }
 
+// Only a number is sent: the mark is no data.
 unsafe impl<L> Send for Steps<L> {}
 
 impl Steps<Brand> {

@@ -1,21 +1,20 @@
-use Rattle.std.proofs.Common.{ℕ, ℤ, ◌≡◌, ◌∙◌, ◌*◌, ◌<◌, List, length, sym, ap, subst, arith}
+use Rattle.std.proofs.Common.{ℕ, ◌≡◌, ◌∙◌, ◌*◌, ◌<◌, sym, ap, subst, arith}
 use Rattle.rand_core.specs.Stream.{Stream}
-use Rattle.co_math.specs.Parameters.{q, digit_count}
-use Rattle.co_math.specs.Coefficients.{residues_of, signed_coefficients}
+use Rattle.co_math.specs.Parameters.{digit_count}
+use Rattle.co_math.specs.Coefficients.{signed_coefficients}
 use Rattle.co_switch.specs.Keys.{Key, IsKey, IsGoodKey, key_degree}
-use Rattle.co_switch.specs.Switches.{carried}
-use Rattle.co_switch.specs.Draws.{key_draw}
+use Rattle.co_switch.specs.Switches.{automorphism}
 use Rattle.co_switch.proofs.Hiding.{nothing_made, one_made, length-made, all_made, key_draw-IsKey, key_draw-good, degree-key_draw}
 use Rattle.co_switch.proofs.making.make_key.Goals as goal
 
-pub carry-requires-clause-within : goal.carry-requires-clause-within
-carry-requires-clause-within g c = subst (λ (m : ℕ). c.args.element < 2 * m) (sym c.in_ok-whole.ensures.degree) c.requires.within
+pub substitute-requires-clause-within : goal.substitute-requires-clause-within
+substitute-requires-clause-within g c = subst (λ (m : ℕ). c.args.element < 2 * m) (sym c.in_ok-whole.ensures.degree) c.requires.within
 
 pub loop-index-init : goal.loop-index-init
 loop-index-init g c =
     let h = c.degree.ensures.secret in
-    nothing_made c.args.secret.now c.args.element (g.R.Rng.stream c.args.rng.now) c.new-k0.result.items c.new-k1.result.items c.in_ok-hidden.hidden c.new-k0.ensures.items c.new-k1.ensures.items h.degree c.requires.odd
-    (c.in_ok-hidden.ensures ∙ ap (carried c.args.element) c.in_ok-whole.ensures.value)
+    nothing_made c.args.secret.now c.args.element (g.R.Rng.stream c.args.rng.now) c.in_ok-k0.k0.items c.in_ok-k1.k1.items c.in_ok-hidden.hidden c.in_ok-k0.ensures.items c.in_ok-k1.ensures.items h.degree c.requires.odd
+    (c.in_ok-hidden.ensures ∙ ap (automorphism c.args.element) c.in_ok-whole.ensures.value)
 
 pub make_pair-requires : goal.make_pair-requires
 make_pair-requires g c = length-made c.loop-index.invariant ∙ sym c.in_ok-whole.ensures.degree
@@ -40,7 +39,7 @@ returns-clause-value g c =
     let s = g.R.Rng.stream c.args.rng.now in
     let all : c.loop-index.index ≡ digit_count = omega arith in
     let made = all_made c.args.secret.now c.args.element c.loop-index.index s (g.R.Rng.stream c.loop-index.rng) c.loop-index.k0.items c.loop-index.k1.items c.loop-index.hidden c.loop-index.invariant all in
-    c.from_parts.ensures ∙ ap (λ (p : Key × Stream). p.0) made
+    c.in_ok-from_parts.ensures ∙ ap (λ (p : Key × Stream). p.0) made
 
 pub returns-clause-rest : goal.returns-clause-rest
 returns-clause-rest g c =

@@ -1,12 +1,13 @@
-use Rattle.std.proofs.Common.{ℕ, ◌≡◌, ◌∙◌, ◌+◌, ◌/◌, ◌≤◌, length, sym, ap, subst, arith}
+use Rattle.std.proofs.Common.{ℕ, ℤ, List, ◌≡◌, ◌∙◌, ◌+◌, ◌/◌, ◌≤◌, length, sym, ap, subst, arith}
 use Rattle.rand_core.specs.Stream.{Stream}
 use Rattle.co_math.specs.Coefficients.{IsDegree, signed_coefficients}
 use Rattle.co_noise.specs.Shapes.{Numbers, levels}
 use Rattle.co_math.specs.Logarithms.{log2_up}
 use Rattle.co_noise.specs.Bounds.{HasRoom}
-use Rattle.co_switch.specs.Keys.{Keys, AreKeys, AreGoodKeys}
+use Rattle.co_switch.specs.Keys.{Keys, AreKeys, AreGoodKeys, keys_degree}
+use Rattle.co_switch.specs.Draws.{key_set_draw}
 use Rattle.co_switch.proofs.Elements.{half_of, levels-le}
-use Rattle.co_switch.proofs.Listing.{set_made, key_set_draw-AreKeys, key_set_draw-good}
+use Rattle.co_switch.proofs.Listing.{HasCounts, set_made, key_set_draw-AreKeys, key_set_draw-good, key_set_draw-counts}
 use Rattle.co_switch.proofs.making.make_keys.Goals as goal
 
 -- the levels of a tested shape of the secret's degree
@@ -59,3 +60,27 @@ returns-clause-good g c =
     let h = half_of (length c.args.secret.now) s.degree in
     subst (AreGoodKeys (signed_coefficients c.args.secret.now)) (sym (returns-clause-value g c))
     (key_set_draw-good c.args.secret.now s.degree (levels c.args.tested.now) h (few_by_half c.args.tested.now (length c.args.secret.now) s.degree c.requires c.shape-shape.ensures.room h.exponent h.log) (g.R.Rng.stream c.args.rng.now))
+
+counts : (secret : List ℤ) (s : Numbers) (d : IsDegree (length secret)) → length secret ≡ s.degree → HasRoom s → (start : Stream) → HasCounts (length secret) (levels s) (key_set_draw secret (levels s) start).0
+counts secret s d e room start = let h = half_of (length secret) d in key_set_draw-counts secret d (levels s) h (few_by_half s (length secret) d e room h.exponent h.log) start
+
+pub make_rotations-requires-clause-degree : goal.make_rotations-requires-clause-degree
+make_rotations-requires-clause-degree g c = subst IsDegree (sym c.degree-degree.ensures.value) c.degree-degree.ensures.ranges.degree
+
+pub make_expansions-requires-clause-degree : goal.make_expansions-requires-clause-degree
+make_expansions-requires-clause-degree g c = subst IsDegree (sym c.degree-degree.ensures.value) c.degree-degree.ensures.ranges.degree
+
+pub returns-clause-degree : goal.returns-clause-degree
+returns-clause-degree g c =
+    let k = counts c.args.secret.now c.args.tested.now c.degree.ensures.secret.degree c.requires c.shape-shape.ensures.room (g.R.Rng.stream c.args.rng.now) in
+    ap keys_degree (returns-clause-value g c) ∙ k.degree ∙ c.requires
+
+pub returns-clause-rotations : goal.returns-clause-rotations
+returns-clause-rotations g c =
+    let k = counts c.args.secret.now c.args.tested.now c.degree.ensures.secret.degree c.requires c.shape-shape.ensures.room (g.R.Rng.stream c.args.rng.now) in
+    ap (λ (x : Keys). length x.rotations) (returns-clause-value g c) ∙ k.rotations ∙ ap (λ (m : ℕ). log2_up (m / 2)) c.requires
+
+pub returns-clause-expansions : goal.returns-clause-expansions
+returns-clause-expansions g c =
+    let k = counts c.args.secret.now c.args.tested.now c.degree.ensures.secret.degree c.requires c.shape-shape.ensures.room (g.R.Rng.stream c.args.rng.now) in
+    ap (λ (x : Keys). length x.expansions) (returns-clause-value g c) ∙ k.expansions

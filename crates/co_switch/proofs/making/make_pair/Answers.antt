@@ -1,4 +1,4 @@
-use Rattle.std.proofs.Common.{ℕ, ◌≡◌, ◌∙◌, List, length, sym, ap}
+use Rattle.std.proofs.Common.{ℕ, ◌≡◌, ◌∙◌, length, sym, ap}
 use Rattle.co_math.specs.Parameters.{q}
 use Rattle.co_math.specs.Coefficients.{residues_of, signed_coefficients}
 use Rattle.co_bfv.specs.Draws.{uniform_draw, error_draw}

@@ -4,7 +4,4 @@ use Rattle.co_switch.specs.Draws.{keys_draw}
 use Rattle.co_switch.proofs.making.make_rotations.Given as goal
 
 abbrev pub invariant-loop-index : goal.invariant-loop-index
-invariant-loop-index g l = record {
-  so_far : (l.keys.items, g.R.Rng.stream l.rng) ≡ keys_draw l.fn.secret (rotation_element (length l.fn.secret)) l.index (g.R.Rng.stream l.fn.rng);
-  element_is : l.element ≡ rotation_element (length l.fn.secret) l.index;
-}
+invariant-loop-index g l = (l.keys.items, g.R.Rng.stream l.rng) ≡ keys_draw l.fn.secret (rotation_element (length l.fn.secret)) l.index (g.R.Rng.stream l.fn.rng)

@@ -1,6 +1,6 @@
-use Rattle.std.proofs.Common.{ℕ, ◌*◌, ◌≤◌, arith}
+use Rattle.std.proofs.Common.{◌*◌, ◌≤◌, arith}
 use Rattle.std.proofs.Math.Nat.{mul-le-mul}
-use Rattle.co_switch.proofs.making.square.Goals as goal
+use Rattle.co_switch.proofs.galois.square.Goals as goal
 
 pub overflow_mul-result : goal.overflow_mul-result
 overflow_mul-result c =
