@@ -1,22 +1,19 @@
 //! Score replies.
 
 ghost use Rattle.std.specs.Prelude.{ℕ, ◌≡◌, ◌+◌, ◌<◌, length, slice_index_or, IsTrue, IfOk, All};
-ghost use Rattle.co_math.specs.Parameters.{plain_modulus};
-ghost use Rattle.co_math.specs.Coefficients.{AreBelow};
 ghost use Rattle.co_bfv.specs.Ciphertexts.{ciphertext_degree};
-ghost use Rattle.co_matvec.specs.Weights.{AreEntries, Precedes, keyword_blocks};
+ghost use Rattle.co_matvec.specs.Weights.{AreEntries, Precedes};
 
-use crate::bfv::put_opened_slots;
+use crate::bfv::{encrypted_slots, put_opened_slots};
 use crate::cases::{BadCase, Case};
 use crate::lines::put_ciphers;
-use crate::switch::{degree_of_keys, tested};
-use co_bfv::{Cipher, Secret, encrypt, sample_secret};
+use crate::switch::keyed;
+use co_bfv::{Cipher, Secret};
 use co_board::OpenGate;
 use co_matvec::{Weights, score};
 use co_ring::Degree;
-use co_slots::encode_slots;
-use co_switch::{Steps, make_keys};
-use rand_core::{Rng, SeedableRng};
+use co_switch::Steps;
+use rand_core::SeedableRng;
 use rand_xoshiro::SplitMix64;
 use std::alloc::{AllocError, Global};
 use std::thread::Threads;
@@ -29,8 +26,7 @@ pub fn line<R: Threads + Sync>(
 ) -> Result<String, BadCase> {
     let mut line = String::new(alloc);
     match call {
-        "score" => put_scores(rt, alloc, &mut line, case, true)?,
-        "slots" => put_scores(rt, alloc, &mut line, case, false)?,
+        "score" | "slots" => put_scores(rt, alloc, &mut line, call, case)?,
         _ => return Err(BadCase::Unfit),
     }
     Ok(line)
@@ -106,49 +102,21 @@ fn weights(alloc: Global, degree: Degree, case: Case) -> Result<Weights, BadCase
     Ok(Weights::new(alloc, degree, documents, terms, &entries)?)
 }
 
-/// The slots of the keyword polynomial of a block.
-fn keyword_slots(
+/// The query of a case, drawn block by block.
+fn queries(
     alloc: Global,
-    degree: Degree,
-    block: usize,
-    keywords: &[u32],
-) -> Result<Vec<u64>, AllocError>
-    ensures len { IfOk result (λ slots. length slots.items ≡ degree) }
-    ensures small { IfOk result (λ slots. AreBelow plain_modulus slots.items) }
-{
-    let n = degree.get() as usize;
-    let half = n / 2;
-    let mut slots = vec![in alloc; 0u64; n]?;
-    if half == 0 {
-        return Ok(slots);
-    }
-    for p in 0..n {
-        let column = p % half;
-        if keywords.iter().any(|&y| y as usize / half == block && y as usize % half == column) {
-            slots[p] = 1;
-        }
-    }
-    Ok(slots)
-}
-
-/// A query for keywords, drawn block by block.
-fn queries<R: Rng>(
-    alloc: Global,
-    degree: Degree,
-    keywords: &[u32],
+    case: Case,
     blocks: usize,
     secret: &Secret,
-    rng: &mut R,
-) -> Result<Vec<Cipher>, AllocError>
-    requires { length secret.now ≡ degree }
+    words: &mut SplitMix64,
+) -> Result<Vec<Cipher>, BadCase>
     ensures count { IfOk result (λ query. length query.items ≡ blocks) }
-    ensures degree { IfOk result (λ query. All (λ c. ciphertext_degree c ≡ degree) query.items) }
+    ensures degree { IfOk result (λ query. All (λ c. ciphertext_degree c ≡ length secret.now) query.items) }
 {
     let mut query = Vec::new(alloc);
     for block in 0..blocks {
-        let slots = keyword_slots(alloc, degree, block, keywords)?;
-        let plain = encode_slots(alloc, degree, &slots)?;
-        query.push(encrypt(alloc, secret, &plain, rng)?)?;
+        let name = format!(in alloc; "query{block}")?;
+        query.push(encrypted_slots(alloc, case, name.as_str(), secret, words)?)?;
     }
     Ok(query)
 }
@@ -158,27 +126,23 @@ fn put_scores<R: Threads + Sync>(
     rt: &R,
     alloc: Global,
     line: &mut String,
+    call: &str,
     case: Case,
-    with_digests: bool,
 ) -> Result<(), BadCase> {
-    let tested = tested(case)?;
-    let degree = Degree::of(tested.shape().degree() as usize);
     let mut words = SplitMix64::seed_from_u64(case.number("stream") as u64);
-    let secret = sample_secret(alloc, degree, &mut words)?;
-    let keys = make_keys(alloc, &tested, &secret, &mut words)?;
+    let (secret, keys) = keyed(alloc, case, &mut words)?;
+    let degree = case.degree()?;
     let weights = weights(alloc, degree, case)?;
-    if degree_of_keys(&keys) != degree.get() as usize {
+    let query = queries(alloc, case, weights.keyword_blocks(), &secret, &mut words)?;
+    if degree.get() as usize != secret.degree() {
         return Err(BadCase::Unfit);
     }
-    let keywords = case.numbers(alloc, "keywords")?;
-    let blocks = weights.keyword_blocks();
-    let query = queries(alloc, degree, &keywords, blocks, &secret, &mut words)?;
     let workers = case.number("workers").clamp(1, 64);
     let mut steps = Steps::begin();
     let replies = score(
         rt, alloc, &weights, &keys, &query, workers, &OpenGate, &mut steps,
     )?;
-    if with_digests {
+    if call == "score" {
         put_ciphers(alloc, line, &query)?;
         put_ciphers(alloc, line, &replies)?;
     }

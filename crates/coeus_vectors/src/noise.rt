@@ -1,17 +1,14 @@
-//! Shapes, and the bounds of the noise.
+//! Shapes, and the test of their noise. What the bounds are stands in the black-box cases.
 
 use crate::cases::{BadCase, Case};
 use crate::lines::{put, put_text};
-use co_noise::{
-    Shape, TestFault, fresh_bound, modulus, retrieve_bound, score_bound, switch_bound, test,
-};
-use std::alloc::{AllocError, Global};
+use co_noise::{Shape, TestFault, test};
+use std::alloc::Global;
 
 pub fn line(alloc: Global, call: &str, case: Case) -> Result<String, BadCase> {
     let mut line = String::new(alloc);
     match call {
         "shape" => put_shape(&mut line, case)?,
-        "bounds" => put_bounds(&mut line, case)?,
         "test" => put_test(&mut line, case)?,
         _ => return Err(BadCase::Unfit),
     }
@@ -44,36 +41,17 @@ fn put_shape(line: &mut String, case: Case) -> Result<(), BadCase> {
     Ok(())
 }
 
-fn put_bounds(line: &mut String, case: Case) -> Result<(), BadCase> {
-    let Some(shape) = shape(case) else {
-        return Err(BadCase::Unfit);
-    };
-    let degree = shape.degree();
-    put(line, fresh_bound())?;
-    put(line, switch_bound(degree))?;
-    put(line, score_bound(&shape))?;
-    put(line, retrieve_bound(degree, shape.rows()))?;
-    put(line, retrieve_bound(degree, shape.bins()))?;
-    put(line, modulus())?;
-    put_answer(line, &shape)?;
-    Ok(())
-}
-
 fn put_test(line: &mut String, case: Case) -> Result<(), BadCase> {
     let Some(shape) = shape(case) else {
         return Err(BadCase::Unfit);
     };
-    put_answer(line, &shape)?;
-    Ok(())
-}
-
-fn put_answer(line: &mut String, shape: &Shape) -> Result<(), AllocError> {
-    let answer = match test(shape) {
+    let answer = match test(&shape) {
         Ok(_) => "yes",
         Err(TestFault::RowsOverDegree { .. }) => "rows",
         Err(TestFault::Score { .. }) => "score",
         Err(TestFault::Records { .. }) => "records",
         Err(TestFault::Bins { .. }) => "bins",
     };
-    put_text(line, answer)
+    put_text(line, answer)?;
+    Ok(())
 }

@@ -5,16 +5,16 @@ ghost use Rattle.co_math.specs.Logarithms.{log2_up};
 ghost use Rattle.co_bfv.specs.Ciphertexts.{ciphertext_degree};
 ghost use Rattle.co_switch.specs.Keys.{keys_degree};
 
-use crate::bfv::{encrypted, put_opened};
+use crate::bfv::{drawn, encrypted, put_opened};
 use crate::cases::{BadCase, Case};
 use crate::lines::{put, put_bytes, put_ciphers, put_text};
-use crate::switch::{degree_of_keys, tested};
-use co_bfv::{Cipher, Secret, encrypt, sample_secret};
+use crate::switch::keyed;
+use co_bfv::{Cipher, Secret, encrypt};
 use co_board::OpenGate;
 use co_pir::{Rows, answer, expand, levels, open_reply, query_message};
 use co_ring::Degree;
 use co_slots::ByteFault;
-use co_switch::{KeySet, Steps, make_keys};
+use co_switch::{KeySet, Steps};
 use rand_core::SeedableRng;
 use rand_xoshiro::SplitMix64;
 use std::alloc::Global;
@@ -54,36 +54,34 @@ fn put_query(alloc: Global, line: &mut String, case: Case) -> Result<(), BadCase
     Ok(())
 }
 
-/// Whether the keys suffice for so many rows.
-fn suffices(keys: &KeySet, degree: usize, rows: u32) -> bool
-    requires some { 1 ≤ rows }
-    requires few { rows ≤ 4096 }
-    ensures degree { IsTrue result → keys_degree keys.now ≡ degree }
+/// Whether there are expansion keys for so many rows.
+fn suffices(keys: &KeySet, rows: u32) -> bool
+    ensures some { IsTrue result → 1 ≤ rows }
     ensures enough { IsTrue result → log2_up rows ≤ length keys.now.expansions }
 {
-    let found = degree_of_keys(keys);
-    found > 0 && found == degree && levels(rows) as usize <= keys.expansions().len()
+    rows >= 1 && rows <= 4096 && levels(rows) as usize <= keys.expansions().len()
 }
 
-/// The digests of the query and of the ciphertexts that it expands to, what these open to, the
-/// digest of the reply, and the bytes that it opens to.
+/// What the ciphertexts of the expanded query and the reply open to, and their digests, and that of
+/// the query.
 fn put_retrieval<R: Threads + Sync>(
     rt: &R,
     alloc: Global,
     line: &mut String,
     case: Case,
 ) -> Result<(), BadCase> {
-    let tested = tested(case)?;
-    let degree = Degree::of(tested.shape().degree() as usize);
+    let degree = case.degree()?;
     let rows = case.number("rows");
     let row = case.number("row");
     if row >= rows || rows > degree.get() {
         return Err(BadCase::Unfit);
     }
     let mut words = SplitMix64::seed_from_u64(case.number("stream") as u64);
-    let secret = sample_secret(alloc, degree, &mut words)?;
-    let keys = make_keys(alloc, &tested, &secret, &mut words)?;
+    let (secret, keys) = keyed(alloc, case, &mut words)?;
     let message = query_message(alloc, degree, rows, row)?;
+    if message.degree() != secret.degree() {
+        return Err(BadCase::Unfit);
+    }
     let query = encrypt(alloc, &secret, &message, &mut words)?;
     put_expansion(alloc, line, rows, &secret, &keys, &query)?;
     put_reply(rt, alloc, line, case, &secret, &keys, &query)?;
@@ -99,11 +97,9 @@ fn put_expansion(
     keys: &KeySet,
     query: &Cipher,
 ) -> Result<(), BadCase>
-    requires some { 1 ≤ rows }
-    requires few { rows ≤ 4096 }
-    requires rows { rows ≤ ciphertext_degree query.now }
+    requires { keys_degree keys.now ≡ ciphertext_degree query.now }
 {
-    if !suffices(keys, query.degree(), rows) {
+    if !suffices(keys, rows) || rows as usize > query.degree() {
         return Err(BadCase::Unfit);
     }
     let ciphers = expand(alloc, query, keys, rows, &mut Steps::begin())?;
@@ -124,28 +120,23 @@ fn put_reply<R: Threads + Sync>(
     secret: &Secret,
     keys: &KeySet,
     query: &Cipher,
-) -> Result<(), BadCase> {
+) -> Result<(), BadCase>
+    requires key_degree { keys_degree keys.now ≡ ciphertext_degree query.now }
+    requires secret_degree { ciphertext_degree query.now ≡ length secret.now }
+{
     let rows = case.number("rows");
     let chunks = case.number("chunks");
     let bytes = case.bytes(alloc, "bytes")?;
     let n = query.degree();
-    if rows == 0 || rows as usize > n || chunks > 4096 || n != secret.degree() {
+    if !suffices(keys, rows) || rows as usize > n || chunks > 4096 {
         return Err(BadCase::Unfit);
     }
-    if bytes.len() != rows as usize * (chunks as usize * (2 * n)) || !suffices(keys, n, rows) {
+    if bytes.len() != rows as usize * (chunks as usize * (2 * n)) {
         return Err(BadCase::Unfit);
     }
     let table = Rows::new(alloc, Degree::of(n), rows, chunks, &bytes)?;
-    let reply = answer(
-        rt,
-        alloc,
-        &table,
-        keys,
-        query,
-        2,
-        &OpenGate,
-        &mut Steps::begin(),
-    )?;
+    let mut steps = Steps::begin();
+    let reply = answer(rt, alloc, &table, keys, query, 2, &OpenGate, &mut steps)?;
     put_ciphers(alloc, line, &reply)?;
     put_bytes_of(alloc, line, secret, &reply)
 }
@@ -176,7 +167,7 @@ fn put_bytes_of(
 /// The bytes of a reply of two ciphertexts, of given messages.
 fn put_opened_reply(alloc: Global, line: &mut String, case: Case) -> Result<(), BadCase> {
     let mut words = SplitMix64::seed_from_u64(case.number("stream") as u64);
-    let secret = sample_secret(alloc, case.degree()?, &mut words)?;
+    let secret = drawn(alloc, case, &mut words)?;
     let first = encrypted(alloc, case, "first", &secret, &mut words)?;
     let second = encrypted(alloc, case, "second", &secret, &mut words)?;
     put_bytes_of(alloc, line, &secret, &[first, second])

@@ -4,15 +4,13 @@ ghost use Rattle.std.specs.Prelude.{◌≡◌};
 ghost use Rattle.co_bfv.specs.Ciphertexts.{ciphertext_degree};
 ghost use Rattle.co_switch.specs.Keys.{keys_degree};
 
-use crate::bfv::put_opened_slots;
+use crate::bfv::{encrypted_slots, put_opened_slots};
 use crate::cases::{BadCase, Case};
 use crate::lines::{put, put_ciphers};
-use crate::switch::{degree_of_keys, tested};
-use co_bfv::{Cipher, encrypt, sample_secret};
-use co_ring::{Degree, Modulus};
+use crate::switch::keyed;
+use co_bfv::Cipher;
 use co_rot::{Visitor, crown, parent, subtree_count, subtree_size, walk_subtree};
-use co_slots::encode_slots;
-use co_switch::{KeySet, Steps, make_keys};
+use co_switch::{KeySet, Steps};
 use rand_core::SeedableRng;
 use rand_xoshiro::SplitMix64;
 use std::alloc::{AllocError, Global};
@@ -78,20 +76,12 @@ fn walk_all<V: Visitor>(
 
 /// The rotations of the encryption of some slots: of each the digest, and the slots that it opens to.
 fn put_rotations(alloc: Global, line: &mut String, case: Case) -> Result<(), BadCase> {
-    let tested = tested(case)?;
-    let degree = Degree::of(tested.shape().degree() as usize);
     let mut words = SplitMix64::seed_from_u64(case.number("stream") as u64);
-    let secret = sample_secret(alloc, degree, &mut words)?;
-    let keys = make_keys(alloc, &tested, &secret, &mut words)?;
-    let slots = case.residues(alloc, Modulus::Plain, "slots")?;
-    if slots.len() != degree.get() as usize || degree_of_keys(&keys) != degree.get() as usize {
-        return Err(BadCase::Unfit);
-    }
-    let plain = encode_slots(alloc, degree, &slots)?;
-    let query = encrypt(alloc, &secret, &plain, &mut words)?;
+    let (secret, keys) = keyed(alloc, case, &mut words)?;
+    let query = encrypted_slots(alloc, case, "slots", &secret, &mut words)?;
     let mut kept = Kept {
         alloc,
-        degree: degree.get() as usize,
+        degree: secret.degree(),
         rotations: Vec::new(alloc),
     };
     walk_all(alloc, &query, &keys, &mut kept)?;

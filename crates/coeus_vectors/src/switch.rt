@@ -1,12 +1,12 @@
 //! Keys, key sets, and key switches.
 
-ghost use Rattle.std.specs.Prelude.{◌≡◌, ◌<◌, length, IfOk};
-ghost use Rattle.co_switch.specs.Keys.{key_degree, keys_degree};
+ghost use Rattle.std.specs.Prelude.{◌≡◌, length, IfOk};
+ghost use Rattle.co_switch.specs.Keys.{keys_degree};
 
-use crate::bfv::{encrypted, put_opened};
+use crate::bfv::{drawn, encrypted, put_cipher};
 use crate::cases::{BadCase, Case};
 use crate::lines::{put, put_digest, put_pair, put_text, spell_pair};
-use crate::streams::{Stand, skip};
+use crate::streams::Stand;
 use co_bfv::{Secret, sample_secret};
 use co_math::parameters::DIGIT_COUNT;
 use co_noise::{Shape, Tested};
@@ -25,23 +25,20 @@ pub fn line<R: Stand>(
     match call {
         "key" => put_key(alloc, &mut line, case, rng)?,
         "switch" => put_switch(alloc, &mut line, case, rng)?,
-        "keys" => put_keys(alloc, &mut line, case, rng, true)?,
-        "elements" => put_keys(alloc, &mut line, case, rng, false)?,
+        "keys" | "elements" => put_keys(alloc, &mut line, call, case, rng)?,
         _ => return Err(BadCase::Unfit),
     }
     put(&mut line, rng.stand() as u128)?;
     Ok(line)
 }
 
-/// A key, for a secret with so many coefficients.
+/// The key of an element, for a secret.
 fn key<R: Rng>(
     alloc: Global,
     case: Case,
     secret: &Secret,
     rng: &mut R,
-) -> Result<GaloisKey, BadCase>
-    ensures { IfOk result (λ k. key_degree k ≡ length secret.now) }
-{
+) -> Result<GaloisKey, BadCase> {
     let element = case.number("element");
     if element % 2 == 0 || element as usize >= 2 * secret.degree() {
         return Err(BadCase::Unfit);
@@ -56,8 +53,7 @@ fn put_key<R: Rng>(
     case: Case,
     rng: &mut R,
 ) -> Result<(), BadCase> {
-    let secret = sample_secret(alloc, case.degree()?, rng)?;
-    skip(rng, case.number("skip"));
+    let secret = drawn(alloc, case, rng)?;
     let key = key(alloc, case, &secret, rng)?;
     put_pair(line, key.k0(0))?;
     put_pair(line, key.k1(0))?;
@@ -83,18 +79,18 @@ fn put_switch<R: Rng>(
     case: Case,
     rng: &mut R,
 ) -> Result<(), BadCase> {
-    let secret = sample_secret(alloc, case.degree()?, rng)?;
-    skip(rng, case.number("skip"));
+    let secret = drawn(alloc, case, rng)?;
     let cipher = encrypted(alloc, case, "message", &secret, rng)?;
     let key = key(alloc, case, &secret, rng)?;
+    if cipher.degree() != key.degree() {
+        return Err(BadCase::Unfit);
+    }
     let switched = apply(alloc, &cipher, &key, &mut Steps::begin())?;
-    put_pair(line, switched.c0())?;
-    put_pair(line, switched.c1())?;
-    put_opened(alloc, line, &secret, &switched)
+    put_cipher(alloc, line, &secret, &switched)
 }
 
 /// The shape of a case, with one document and term where it has none.
-pub fn tested(case: Case) -> Result<Tested, BadCase> {
+fn tested(case: Case) -> Result<Tested, BadCase> {
     let shape = Shape::new(
         case.number("degree"),
         case.number("documents").max(1),
@@ -114,22 +110,30 @@ pub fn tested(case: Case) -> Result<Tested, BadCase> {
     }
 }
 
-/// The elements of a set of keys, and the digest of its wire bytes where it is known.
-fn put_keys<R: Rng>(
-    alloc: Global,
-    line: &mut String,
-    case: Case,
-    rng: &mut R,
-    with_digest: bool,
-) -> Result<(), BadCase> {
+/// A secret, and keys for it and the shape of a case.
+pub fn keyed<R: Rng>(alloc: Global, case: Case, rng: &mut R) -> Result<(Secret, KeySet), BadCase>
+    ensures { IfOk result (λ p. keys_degree p.1 ≡ length p.0) }
+{
     let tested = tested(case)?;
     let degree = Degree::of(tested.shape().degree() as usize);
     let secret = sample_secret(alloc, degree, rng)?;
     let keys = make_keys(alloc, &tested, &secret, rng)?;
+    Ok((secret, keys))
+}
+
+/// The elements of a set of keys, and the digest of its wire bytes where it is known.
+fn put_keys<R: Rng>(
+    alloc: Global,
+    line: &mut String,
+    call: &str,
+    case: Case,
+    rng: &mut R,
+) -> Result<(), BadCase> {
+    let (_, keys) = keyed(alloc, case, rng)?;
     let mut bytes = Vec::new(alloc);
     spell_keys(line, &mut bytes, "rotations", keys.rotations())?;
     spell_keys(line, &mut bytes, "expansions", keys.expansions())?;
-    if with_digest {
+    if call == "keys" {
         put_digest(alloc, line, &bytes)?;
     }
     Ok(())
@@ -147,12 +151,4 @@ fn spell_keys(
         spell_digits(bytes, key, 0)?;
     }
     Ok(())
-}
-
-/// The degree of a set of keys, or 0 where it isn't known.
-pub fn degree_of_keys(keys: &KeySet) -> usize
-    ensures { 0 < result → keys_degree keys.now ≡ result }
-{
-    let bits = keys.rotations().len();
-    if bits < 32 { 2 * (1 << bits) } else { 0 }
 }

@@ -4,4 +4,4 @@ use Rattle.co_bfv.specs.Ciphertexts.{ciphertext_degree}
 use Rattle.coeus_vectors.proofs.matvec.queries.Given as goal
 
 abbrev pub invariant-loop-block : goal.invariant-loop-block
-invariant-loop-block l = (length l.query.items ≡ l.block) × All (λ c. ciphertext_degree c ≡ l.degree) l.query.items
+invariant-loop-block l = (length l.query.items ≡ l.block) × All (λ c. ciphertext_degree c ≡ length l.secret) l.query.items
