@@ -7,7 +7,7 @@ use crate::cases::{BadCase, Case, degree_of};
 use crate::lines::{put, put_ciphers, put_pair, put_poly, put_words};
 use crate::streams::{Stand, skip};
 use co_bfv::{Cipher, Secret, decrypt, encrypt, sample_error, sample_secret, sample_uniform};
-use co_ring::{Degree, Modulus, Poly};
+use co_ring::{Modulus, Poly};
 use co_slots::{decode_slots, encode_slots};
 use rand_core::Rng;
 use rand_xoshiro::SplitMix64;
@@ -184,7 +184,7 @@ fn put_multiple(
     secret: &Secret,
     one: &Cipher,
 ) -> Result<(), BadCase> {
-    let mut sum = Cipher::zero(alloc, Degree::of(one.degree()))?;
+    let mut sum = Cipher::zero(alloc, degree_of(one.degree())?)?;
     for _ in 0..case.number("count") {
         sum.add_in(one);
     }

@@ -6,13 +6,12 @@ ghost use Rattle.co_bfv.specs.Ciphertexts.{ciphertext_degree};
 ghost use Rattle.co_switch.specs.Keys.{keys_degree};
 
 use crate::bfv::{drawn, encrypted, put_opened};
-use crate::cases::{BadCase, Case};
+use crate::cases::{BadCase, Case, degree_of};
 use crate::lines::{put, put_bytes, put_ciphers, put_text};
 use crate::switch::keyed;
 use co_bfv::{Cipher, Secret, encrypt};
 use co_board::OpenGate;
 use co_pir::{Rows, answer, expand, levels, open_reply, query_message};
-use co_ring::Degree;
 use co_slots::ByteFault;
 use co_switch::{KeySet, Steps};
 use rand_core::SeedableRng;
@@ -128,13 +127,13 @@ fn put_reply<R: Threads + Sync>(
     let chunks = case.number("chunks");
     let bytes = case.bytes(alloc, "bytes")?;
     let n = query.degree();
-    if !suffices(keys, rows) || rows as usize > n || chunks > 4096 {
+    if !suffices(keys, rows) || rows as usize > n || n > 4096 || chunks > 4096 {
         return Err(BadCase::Unfit);
     }
     if bytes.len() != rows as usize * (chunks as usize * (2 * n)) {
         return Err(BadCase::Unfit);
     }
-    let table = Rows::new(alloc, Degree::of(n), rows, chunks, &bytes)?;
+    let table = Rows::new(alloc, degree_of(n)?, rows, chunks, &bytes)?;
     let mut steps = Steps::begin();
     let reply = answer(rt, alloc, &table, keys, query, 2, &OpenGate, &mut steps)?;
     put_ciphers(alloc, line, &reply)?;

@@ -54,7 +54,7 @@ fn scaled(alloc: Global, modulus: Modulus, case: Case) -> Result<Poly, BadCase> 
 fn substituted(alloc: Global, modulus: Modulus, case: Case) -> Result<Poly, BadCase> {
     let a = case.poly(alloc, modulus, "a")?;
     let g = case.number("g");
-    if g % 2 == 0 || g as usize >= 2 * a.degree() {
+    if g % 2 == 0 || g as usize / 2 >= a.degree() {
         return Err(BadCase::Unfit);
     }
     let mut into = Poly::zero(alloc, modulus, a.shape())?;
@@ -65,7 +65,7 @@ fn substituted(alloc: Global, modulus: Modulus, case: Case) -> Result<Poly, BadC
 fn shifted(alloc: Global, modulus: Modulus, case: Case) -> Result<Poly, BadCase> {
     let a = case.poly(alloc, modulus, "a")?;
     let exponent = case.number("exponent");
-    if exponent as usize >= 2 * a.degree() {
+    if exponent as usize / 2 >= a.degree() {
         return Err(BadCase::Unfit);
     }
     let mut into = Poly::zero(alloc, modulus, a.shape())?;

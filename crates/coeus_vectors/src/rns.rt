@@ -2,10 +2,10 @@
 
 ghost use Rattle.std.specs.Prelude.{◌≡◌, length, IfOk};
 
-use crate::cases::{BadCase, Case};
+use crate::cases::{BadCase, Case, degree_of};
 use crate::lines::{put_pair, put_poly};
 use co_math::parameters::DIGIT_COUNT;
-use co_ring::{Degree, Modulus};
+use co_ring::Modulus;
 use co_rns::{Pair, PairSpectrum, Tables, from_spectrum, to_spectrum};
 use std::alloc::Global;
 
@@ -47,7 +47,7 @@ fn joined(alloc: Global, case: Case) -> Result<Pair, BadCase> {
 /// The lowest digits of all coefficients, then the next ones.
 fn put_digits(alloc: Global, line: &mut String, case: Case) -> Result<(), BadCase> {
     let a = case.pair(alloc, "a")?;
-    let mut into = Pair::zero(alloc, Degree::of(a.degree()))?;
+    let mut into = Pair::zero(alloc, degree_of(a.degree())?)?;
     for index in 0..DIGIT_COUNT {
         a.digit(index, &mut into);
         put_pair(line, &into)?;
@@ -75,7 +75,7 @@ fn product(alloc: Global, case: Case) -> Result<Pair, BadCase> {
 /// The product, back from the products of values.
 fn product_by_values(alloc: Global, case: Case) -> Result<Pair, BadCase> {
     let (a, b) = both(alloc, case)?;
-    let degree = Degree::of(a.degree());
+    let degree = degree_of(a.degree())?;
     let tables = Tables::new(alloc, degree)?;
     let mut of_a = PairSpectrum::zero(alloc, degree)?;
     let mut of_b = PairSpectrum::zero(alloc, degree)?;
@@ -100,10 +100,10 @@ fn plain_product(alloc: Global, case: Case) -> Result<Pair, BadCase> {
 fn substituted(alloc: Global, case: Case) -> Result<Pair, BadCase> {
     let a = case.pair(alloc, "a")?;
     let g = case.number("g");
-    if g % 2 == 0 || g as usize >= 2 * a.degree() {
+    if g % 2 == 0 || g as usize / 2 >= a.degree() {
         return Err(BadCase::Unfit);
     }
-    let mut into = Pair::zero(alloc, Degree::of(a.degree()))?;
+    let mut into = Pair::zero(alloc, degree_of(a.degree())?)?;
     a.substitute(g, &mut into);
     Ok(into)
 }
@@ -111,10 +111,10 @@ fn substituted(alloc: Global, case: Case) -> Result<Pair, BadCase> {
 fn shifted(alloc: Global, case: Case) -> Result<Pair, BadCase> {
     let a = case.pair(alloc, "a")?;
     let exponent = case.number("exponent");
-    if exponent as usize >= 2 * a.degree() {
+    if exponent as usize / 2 >= a.degree() {
         return Err(BadCase::Unfit);
     }
-    let mut into = Pair::zero(alloc, Degree::of(a.degree()))?;
+    let mut into = Pair::zero(alloc, degree_of(a.degree())?)?;
     a.monomial_mul(exponent, &mut into);
     Ok(into)
 }

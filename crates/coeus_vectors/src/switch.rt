@@ -10,7 +10,6 @@ use crate::streams::Stand;
 use co_bfv::{Secret, sample_secret};
 use co_math::parameters::DIGIT_COUNT;
 use co_noise::{Shape, Tested};
-use co_ring::Degree;
 use co_switch::{GaloisKey, KeySet, Steps, apply, make_key, make_keys};
 use rand_core::Rng;
 use std::alloc::{AllocError, Global};
@@ -40,7 +39,7 @@ fn key<R: Rng>(
     rng: &mut R,
 ) -> Result<GaloisKey, BadCase> {
     let element = case.number("element");
-    if element % 2 == 0 || element as usize >= 2 * secret.degree() {
+    if element % 2 == 0 || element as usize / 2 >= secret.degree() {
         return Err(BadCase::Unfit);
     }
     Ok(make_key(alloc, secret, element, rng)?)
@@ -115,7 +114,10 @@ pub fn keyed<R: Rng>(alloc: Global, case: Case, rng: &mut R) -> Result<(Secret, 
     ensures { IfOk result (λ p. keys_degree p.1 ≡ length p.0) }
 {
     let tested = tested(case)?;
-    let degree = Degree::of(tested.shape().degree() as usize);
+    let degree = case.degree()?;
+    if degree.get() != tested.shape().degree() {
+        return Err(BadCase::Unfit);
+    }
     let secret = sample_secret(alloc, degree, rng)?;
     let keys = make_keys(alloc, &tested, &secret, rng)?;
     Ok((secret, keys))
