@@ -12,7 +12,7 @@ use Rattle.co_wire.specs.Reading.{IsChain}
 use Rattle.co_wire.specs.Public.{fields_bytes}
 use Rattle.co_wire.proofs.Ranges.{both}
 use Rattle.co_wire.proofs.Sizes.{fields_few}
-use Rattle.co_library.specs.Libraries.{Entry, Parts, IsEntry, IsLibrary, is_later}
+use Rattle.co_library.specs.Libraries.{Entry, Parts, IsEntry, IsLibrary}
 use Rattle.co_library.specs.Files.{entry_bytes, library_word, parts_bytes, library_bytes}
 
 -- ---- entries

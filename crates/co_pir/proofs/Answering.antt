@@ -1,5 +1,5 @@
 -- All units together are the reply; the sums of two workers add up.
-use Rattle.std.proofs.Common.{◌≡◌, ℕ, zero, suc, ◌+◌, ◌-◌, ◌*◌, ◌/◌, ◌%◌, ◌<◌, ◌≤◌, ◌≢◌, refl, sym, ap, subst, ◌∙◌, ⊎_elim, arith, Bool, true, false, cond, min, eqb, eq-eqb, List, [], ◌∷◌, ◌++◌, length, get_or, set, map, All}
+use Rattle.std.proofs.Common.{◌≡◌, ℕ, zero, suc, ◌+◌, ◌-◌, ◌*◌, ◌/◌, ◌%◌, ◌^◌, ◌<◌, ◌≤◌, ◌≢◌, refl, sym, ap, subst, ◌∙◌, ⊎_elim, arith, Bool, true, false, cond, min, eqb, eq-eqb, List, [], ◌∷◌, ◌++◌, length, get_or, set, map, All}
 use Rattle.std.specs.Prelude.{◌==◌, if◌then◌else◌}
 use Rattle.std.specs.Int.{div_ceil}
 use Rattle.std.specs.List.{range_with_len}

@@ -77,8 +77,7 @@ module _ (rows : ℕ) (g : ℕ → ℤ) where
       no k c ne = grind (arith, nat_tests)
 
       left_out : (k p : ℕ) → eqb k chunk ≡ false → total (cond (eqb k chunk) (min 64 (rows - p * 64)) 0) (λ j. g (p * 64 + j)) ≡ pos 0
-      unfolding total
-      left_out k p e = ap (λ b. total (cond b (min 64 (rows - p * 64)) 0) (λ j. g (p * 64 + j))) e
+      left_out k p e = ap (λ b. total (cond b (min 64 (rows - p * 64)) 0) (λ j. g (p * 64 + j))) e ∙ total-zero (λ j. g (p * 64 + j))
 
       taken : (p : ℕ) → eqb chunk chunk ≡ true → total (cond (eqb chunk chunk) (min 64 (rows - p * 64)) 0) (λ j. g (p * 64 + j)) ≡ total (min 64 (rows - p * 64)) (λ j. g (p * 64 + j))
       taken p e = ap (λ b. total (cond b (min 64 (rows - p * 64)) 0) (λ j. g (p * 64 + j))) e

@@ -13,7 +13,7 @@ use Rattle.co_pir.specs.Expansions.{expanded}
 use Rattle.co_pir.specs.Tables.{Table, IsTable, row_bytes}
 use Rattle.co_pir.specs.Meanings.{AsksRow, CanRetrieve, MeansBytes}
 use Rattle.co_pir.specs.Replies.{retrieved}
-use Rattle.co_math.proofs.Degrees.{degree-most}
+use Rattle.co_math.proofs.Degrees.{degree_most}
 use Rattle.co_math.proofs.Logarithms.{log2_up-is}
 use Rattle.co_pir.proofs.Expanding.{length-expanded}
 use Rattle.co_pir.proofs.Asked.{CanExpand, expanded_means}

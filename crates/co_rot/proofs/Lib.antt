@@ -3,7 +3,6 @@ pub mod Turning
 pub mod Composed
 pub mod Columns
 pub mod Rotated
-pub mod Copies
 pub mod Keyed
 pub mod Halving
 pub mod Always

@@ -13,8 +13,6 @@
 mod laws;
 mod parents;
 mod subtrees;
-#[cfg(test)]
-mod tests;
 mod visitor;
 
 pub use laws::{rotations_come_from_parents, rotations_turn_slots};

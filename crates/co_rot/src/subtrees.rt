@@ -12,18 +12,8 @@ ghost use Rattle.co_rot.specs.Subtrees.{crown_bits, subtree_bits, crown_of, IsRo
 use crate::parents::{lowest_bit, parent};
 use crate::visitor::Visitor;
 use co_bfv::Cipher;
-use co_ring::Degree;
 use co_switch::{KeySet, Steps, apply};
 use std::alloc::{AllocError, Global};
-
-/// Another ciphertext of the same value.
-fn copy_of(alloc: Global, cipher: &Cipher) -> Result<Cipher, AllocError>
-    ensures { IfOk result (λ c. c ≡ cipher.now) }
-{
-    let mut copy = Cipher::zero(alloc, Degree::of(cipher.degree()))?;
-    copy.add_in(cipher);
-    Ok(copy)
-}
 
 /// The rotation by `i`, from that by its parent.
 fn turn<L>(
@@ -88,7 +78,7 @@ pub fn crown<L>(
     let _ = query.degree();
     let size = subtree_size(keys);
     let mut roots = Vec::new(alloc);
-    roots.push(copy_of(alloc, query)?)?;
+    roots.push(query.copy(alloc)?)?;
     for r in 1..subtree_count(keys) {
         let next = turn(alloc, &roots[parent(r) as usize], r * size, keys, steps)?;
         roots.push(next)?;

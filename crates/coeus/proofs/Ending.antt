@@ -1,5 +1,5 @@
 -- How a command ends, by the causes of its steps.
-use Rattle.std.proofs.Common.{◌≡◌, ◌≢◌, ◌⊎◌, ℕ, ◌<◌, List, Option, Some, None, Ok, Err, refl, sym, ap, subst, ◌∙◌, inl, inr, arith}
+use Rattle.std.proofs.Common.{◌≡◌, ◌≢◌, ◌⊎◌, ℕ, List, Option, Some, None, Ok, Err, refl, sym, ap, subst, ◌∙◌, inl, inr, arith}
 use Rattle.std.specs.Prelude.{Result, IsErr, IsOk}
 use mathlib.Core.Bool.{true≢false}
 use Rattle.co_link.specs.Causes.{Rose}
@@ -20,14 +20,14 @@ use Rattle.co_library.specs.declared.publishing.PublishFault.TheVariants as publ
 use Rattle.co_library.proofs.OneAnswer.{no_refusal}
 use Rattle.coeus.specs.declared.limits.TheConstants.{MAX_CORPUS}
 use Rattle.coeus.specs.declared.refusals.Refusal.{Refusal}
-use Rattle.coeus.specs.declared.refusals.Refusal.TheVariants.{Words, Corpus, CorpusTooLong, Publish, Test, Keywords, File, Output, Memory}
+use Rattle.coeus.specs.declared.refusals.Refusal.TheVariants.{Corpus, CorpusTooLong, Publish, Test, Keywords, File, Output, Memory}
 use Rattle.coeus.specs.Words.{Spoken, SpokenPlain, SpokenImport, SpokenShape, SpokenWrong, PlainWords, ImportWords, spoken}
 use Rattle.coeus.specs.Outside.{Outside, FilesState, SinkState, HasNoFault}
-use Rattle.coeus.specs.Refusals.{status_of, status_of_corpus, status_of_publishing, text_of, Says}
-use Rattle.coeus.specs.Searches.{HasCorpus, HasFault, IsToldCorpus, ReadCause, TextCause, PlainCause, CanBeSearched}
-use Rattle.coeus.specs.Imports.{ImportCause, CanBeImported}
+use Rattle.coeus.specs.Refusals.{status_of, status_of_publishing, text_of, Says}
+use Rattle.coeus.specs.Searches.{HasCorpus, IsToldCorpus, ReadCause, TextCause, CanBeSearched}
+use Rattle.coeus.specs.Imports.{CanBeImported}
 use Rattle.coeus.specs.ShapeLines.{status_of_test}
-use Rattle.coeus.specs.Runs.{Keeps, Due, Answered, Refused, RefusedBy, Refuses, Ran}
+use Rattle.coeus.specs.Runs.{Keeps, Due, Answered, RefusedBy, Ran}
 
 -- ---- refusals of the steps
 

@@ -1,6 +1,6 @@
 -- A line that is put in parts.
 use Rattle.std.proofs.Common.{◌≡◌, ℕ, ◌≤◌, List, [], ◌∷◌, ◌++◌, Option, Some, None, Ok, refl, sym, ap, subst, ◌∙◌, append_assoc, append-nil, map, take, length, ◌+◌, ◌<◌, get_or, true, Bor, arith}
-use Rattle.std.specs.Prelude.{Result, is_ok, Err, IsErr}
+use Rattle.std.specs.Prelude.{Result, is_ok, Err}
 use Rattle.std.proofs.lemmas.List.{take_more}
 use mathlib.Core.Bool.{true≢false}
 use Rattle.co_link.specs.Causes.{Rose}

@@ -12,7 +12,7 @@ use Rattle.coeus.specs.Words.{ImportWords}
 use Rattle.coeus.specs.Outside.{FilesState, Fails}
 use Rattle.coeus.specs.Searches.{HasCorpus, IsToldCorpus, ReadCause}
 use Rattle.coeus.specs.declared.refusals.Refusal.{Refusal}
-use Rattle.coeus.specs.declared.refusals.Refusal.TheVariants.{Words, Corpus, CorpusTooLong, Publish, Test, Keywords, File, Output, Memory}
+use Rattle.coeus.specs.declared.refusals.Refusal.TheVariants.{Publish, File}
 
 -- what is printed of a library's published numbers
 abbrev pub import_text : Numbers → List ℕ

@@ -1,5 +1,5 @@
 -- Why the program refuses, with which status, and what it says.
-use Rattle.std.specs.Prelude.{◌≡◌, ℕ, List, [], ◌∷◌, ◌++◌, codes, decimal, Ok}
+use Rattle.std.specs.Prelude.{ℕ, List, [], ◌∷◌, ◌++◌, codes, decimal}
 use Rattle.co_link.specs.Causes.{Rose}
 use Rattle.co_link.specs.declared.files.FileKind.{FileKind}
 use Rattle.co_link.specs.declared.files.FileKind.TheVariants.{Read, Write}

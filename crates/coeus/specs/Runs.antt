@@ -1,7 +1,7 @@
 -- What a run of the program is: what each command prints, when it refuses, and what it leaves.
 use Rattle.std.specs.Prelude.{◌≡◌, ◌≢◌, ◌⊎◌, ℕ, List, Option, Result, Ok, Err, IsOk}
 use Rattle.co_link.specs.Files.{Folder, file_at}
-use Rattle.co_link.specs.declared.files.FileKind.TheVariants.{Read, Write}
+use Rattle.co_link.specs.declared.files.FileKind.TheVariants.{Write}
 use Rattle.co_noise.specs.Bounds.{test_of}
 use Rattle.coeus.specs.Words.{Spoken, SpokenPlain, SpokenImport, SpokenShape, SpokenWrong, spoken}
 use Rattle.coeus.specs.Outside.{Outside, SinkState, Took, TookFront, HasNoFault}

@@ -4,7 +4,7 @@ use Rattle.co_link.specs.Files.{Folder, file_at, IsLonger}
 use Rattle.co_link.specs.declared.files.FileKind.TheVariants.{Read}
 use Rattle.co_text.specs.Terms.{terms, distinct}
 use Rattle.co_text.specs.Printed.{printed}
-use Rattle.co_text.specs.declared.terms.TheConstants.{MAX_KEYWORDS}
+use Rattle.co_text.specs.declared.limits.TheConstants.{MAX_KEYWORDS}
 use Rattle.co_corpus.specs.Reading.{corpus_of}
 use Rattle.co_corpus.specs.declared.documents.Document.{Document}
 use Rattle.co_corpus.specs.declared.reading.CorpusFault.{CorpusFault}
@@ -14,9 +14,9 @@ use Rattle.co_library.specs.declared.settings.Settings.{Settings}
 use Rattle.co_library.specs.declared.publishing.PublishFault.TheVariants.{Setting}
 use Rattle.coeus.specs.declared.limits.TheConstants.{MAX_CORPUS, DEFAULT_DEGREE, DEFAULT_SALT, DEFAULT_CHUNKS}
 use Rattle.coeus.specs.Words.{PlainWords, joined}
-use Rattle.coeus.specs.Outside.{Outside, FilesState, Fails}
+use Rattle.coeus.specs.Outside.{FilesState, Fails}
 use Rattle.coeus.specs.declared.refusals.Refusal.{Refusal}
-use Rattle.coeus.specs.declared.refusals.Refusal.TheVariants.{Words, Corpus, CorpusTooLong, Publish, Test, Keywords, File, Output, Memory}
+use Rattle.coeus.specs.declared.refusals.Refusal.TheVariants.{Corpus, CorpusTooLong, Publish, Keywords, File, Memory}
 
 -- ---- the corpus of a file
 

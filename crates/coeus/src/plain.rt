@@ -2,7 +2,7 @@
 ghost use Rattle.std.specs.Prelude.{◌≡◌, ◌≤◌, length, IfOk, IfErr, OnOk, ℕ};
 ghost use Rattle.co_text.specs.Terms.{distinct};
 ghost use Rattle.co_text.specs.Printed.{printed};
-ghost use Rattle.co_text.specs.declared.terms.TheConstants.{MAX_KEYWORDS};
+ghost use Rattle.co_text.specs.declared.limits.TheConstants.{MAX_KEYWORDS};
 ghost use Rattle.co_tfidf.specs.Found.{found, IsIndex};
 ghost use Rattle.coeus.specs.Words.{SpokenPlain};
 ghost use Rattle.coeus.specs.Commands.{plain_shown};

@@ -11,15 +11,15 @@ use Rattle.co_rot.proofs.Keyed.{read_as}
 use Rattle.co_rot.proofs.Crowns.{AreRoots, one_root, root-below, root-fits, length-roots, root-degree, more_roots, roots-risen, roots-risen-more, all_roots, all_counted, below_end, at_end}
 use Rattle.co_rot.proofs.subtrees.crown.Goals as goal
 
-pub returns-in_err-copy_of-clause-rise : goal.returns-in_err-copy_of-clause-rise
-returns-in_err-copy_of-clause-rise g c = risen_none c.args.steps.now (2 ^ crown_bits c.args.keys.now - 1)
+pub returns-in_err-copy-clause-rise : goal.returns-in_err-copy-clause-rise
+returns-in_err-copy-clause-rise g c = risen_none c.args.steps.now (2 ^ crown_bits c.args.keys.now - 1)
 
 pub returns-in_err-push-clause-rise : goal.returns-in_err-push-clause-rise
 returns-in_err-push-clause-rise g c = risen_none c.args.steps.now (2 ^ crown_bits c.args.keys.now - 1)
 
 pub loop-r-init : goal.loop-r-init
 loop-r-init g c =
-    let e : c.push.new.self.items ≡ c.args.query.now ∷ [] = c.in_ok-push.ensures.items ∙ (λ i. c.new-roots.ensures.items i ++ c.in_ok-copy_of.ensures i ∷ []) in
+    let e : c.push.new.self.items ≡ c.args.query.now ∷ [] = c.in_ok-push.ensures.items ∙ (λ i. c.new-roots.ensures.items i ++ c.in_ok-copy.ensures i ∷ []) in
     subst (λ (xs : List Ciphertext). AreRoots c.args.keys.now c.args.query.now 1 xs c.args.steps.now c.args.steps.now) (sym e) (one_root c.args.keys.now c.args.query.now c.args.steps.now)
 
 pub index-requires : goal.index-requires

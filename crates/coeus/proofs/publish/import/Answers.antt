@@ -20,11 +20,11 @@ returns-in-Err-Failed g c =
 pub unreachable-requires : goal.unreachable-requires
 unreachable-requires g c = absurd (c.in-Err-TooLong.ensures.bytes.never_too_long (ap Err c.in-Err-TooLong.field-0-is))
 
-pub returns-in-Err-OutOfMemory : goal.returns-in-Err-OutOfMemory
-returns-in-Err-OutOfMemory g c = record {
+pub returns-in-Err-OutOfMemory-write : goal.returns-in-Err-OutOfMemory-write
+returns-in-Err-OutOfMemory-write g c = record {
   cause = tt;
   out = refl;
-  files = same_files _ _ (c.in-Err-OutOfMemory.ensures.bytes.kept (ap Err c.in-Err-OutOfMemory.field-0-is)) ∙ c.read_documents.ensures.files;
+  files = same_files _ _ (c.in-Err-OutOfMemory-write.ensures.bytes.kept (ap Err c.in-Err-OutOfMemory-write.field-0-is)) ∙ c.read_documents.ensures.files;
 }
 
 pub returns-in-Ok-put : goal.returns-in-Ok-put

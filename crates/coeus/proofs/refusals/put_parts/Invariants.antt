@@ -1,4 +1,4 @@
-use Rattle.std.proofs.Common.{◌≤◌, ℕ, List, map, take, Bor}
+use Rattle.std.proofs.Common.{◌≤◌, map, take}
 use Rattle.co_link.specs.Causes.{Rose}
 use Rattle.co_link.specs.Held.{TookWhole}
 use Rattle.coeus.specs.Refusals.{flat}

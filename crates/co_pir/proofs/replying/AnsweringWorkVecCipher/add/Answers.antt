@@ -4,6 +4,7 @@ use Rattle.co_bfv.specs.Ciphertexts.{Ciphertext}
 use Rattle.co_crew.proofs.Adding.{whole_kept}
 use Rattle.co_pir.specs.Units.{Answered, AreUnitSums}
 use Rattle.co_pir.proofs.Answering.{unit_added}
+use Rattle.co_switch.proofs.Rising.{raised-zero, risen_none}
 use Rattle.co_pir.proofs.replying.AnsweringWorkVecCipher.add.Goals as goal
 
 pub returns-clause-sum : goal.returns-clause-sum
@@ -16,3 +17,12 @@ returns-clause-sum g c us h =
     let after = unit_added t cs us c.args.unit c.deref_mut.result.now c.add_unit.new.sums c.degree.ensures.table.degree before c.in_ok-add_unit.ensures in
     subst (λ (xs : List Ciphertext). AreUnitSums c.args.self.now.table c.args.self.now.expansion (us ++ c.args.unit ∷ []) xs) (sym kept)
     (subst (λ (a : Answered). AreUnitSums a.table a.expansion (us ++ c.args.unit ∷ []) c.add_unit.new.sums) c.self.view_is after)
+
+pub returns-in_err-add_unit-clause-rise : goal.returns-in_err-add_unit-clause-rise
+returns-in_err-add_unit-clause-rise g c = risen_none c.args._steps.now 0
+
+pub returns-clause-steps : goal.returns-clause-steps
+returns-clause-steps g c = sym (raised-zero c.args._steps.now)
+
+pub returns-clause-rise : goal.returns-clause-rise
+returns-clause-rise g c = risen_none c.args._steps.now 0
