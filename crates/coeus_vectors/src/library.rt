@@ -7,6 +7,7 @@ use crate::tfidf::corpus;
 use co_library::{Library, LibraryFault, Settings, publish};
 use co_link::Bytes;
 use co_noise::Shape;
+use co_text::Terms;
 use co_wire::{WireFault, read_public, read_shape_fields, write_public};
 use std::alloc::{AllocError, Global};
 
@@ -65,34 +66,54 @@ fn put_library(alloc: Global, line: &mut String, case: Case) -> Result<(), BadCa
     let library = library(alloc, case)?;
     put_shape(line, library.shape())?;
     let file = library.write(alloc)?;
+    put_file(alloc, line, file.as_slice())?;
+    let public = public_bytes(alloc, &library)?;
+    put_public(alloc, line, public.as_slice())
+}
+
+fn put_file(alloc: Global, line: &mut String, file: &[u8]) -> Result<(), BadCase> {
     put(line, file.len() as u128)?;
-    put_digest(alloc, line, file.as_slice())?;
-    let Ok(again) = Library::read(alloc, file.as_slice()) else {
-        return Err(BadCase::Unfit);
-    };
-    if again.write(alloc)?.as_slice() == file.as_slice() {
+    put_digest(alloc, line, file)?;
+    if written_again(alloc, file)?.as_slice() == file {
         put_text(line, "again")?;
     }
-    put_public(alloc, line, &library)
+    Ok(())
+}
+
+/// What is written of the library that a file is read as.
+fn written_again(alloc: Global, file: &[u8]) -> Result<Bytes, BadCase> {
+    match Library::read(alloc, file) {
+        Ok(library) => Ok(library.write(alloc)?),
+        Err(_) => return Err(BadCase::Unfit),
+    }
 }
 
 /// The public bytes, how many of them are fields and terms, and what they say.
-fn put_public(alloc: Global, line: &mut String, library: &Library) -> Result<(), BadCase> {
-    let bytes = public_bytes(alloc, library)?;
-    put_bytes(alloc, line, bytes.as_slice())?;
-    if bytes.len() < 8 {
-        return Err(BadCase::Unfit);
-    }
-    let (Ok((_, _, behind)), Ok((shape, terms))) = (
-        read_shape_fields(alloc, bytes.as_slice(), 8),
-        read_public(alloc, bytes.as_slice()),
-    ) else {
-        return Err(BadCase::Unfit);
-    };
-    put(line, behind as u128)?;
+fn put_public(alloc: Global, line: &mut String, public: &[u8]) -> Result<(), BadCase> {
+    put_bytes(alloc, line, public)?;
+    put(line, behind_fields(alloc, public)? as u128)?;
+    let (shape, terms) = read_again(alloc, public)?;
     put_shape(line, &shape)?;
     put_terms(line, &terms)?;
     Ok(())
+}
+
+/// The place behind the fields of the shape and the terms.
+fn behind_fields(alloc: Global, public: &[u8]) -> Result<u64, BadCase> {
+    if public.len() < 8 {
+        return Err(BadCase::Unfit);
+    }
+    match read_shape_fields(alloc, public, 8) {
+        Ok((_, _, behind)) => Ok(behind),
+        Err(_) => return Err(BadCase::Unfit),
+    }
+}
+
+fn read_again(alloc: Global, public: &[u8]) -> Result<(Shape, Terms), BadCase> {
+    match read_public(alloc, public) {
+        Ok(found) => Ok(found),
+        Err(_) => return Err(BadCase::Unfit),
+    }
 }
 
 fn put_refusal(alloc: Global, line: &mut String, case: Case) -> Result<(), BadCase> {
@@ -109,10 +130,11 @@ fn put_parts(alloc: Global, line: &mut String, case: Case) -> Result<(), BadCase
     for (term, document, weight) in library.weights() {
         put_numbers(line, &[*term, *document, *weight as u32])?;
     }
-    let document = case.number("document") as usize;
-    let record = library.records().chunks(256).nth(document).unwrap_or(&[]);
+    let records = library.records();
+    let from = (case.number("document") as usize).saturating_mul(256);
+    let record = records.get(from..from.saturating_add(256)).unwrap_or(&[]);
     put_bytes(alloc, line, record)?;
-    put(line, library.records().len() as u128)?;
+    put(line, records.len() as u128)?;
     put(line, library.bins().len() as u128)?;
     Ok(())
 }

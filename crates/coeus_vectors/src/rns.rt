@@ -6,7 +6,7 @@ use crate::cases::{BadCase, Case, degree_of};
 use crate::lines::{put_pair, put_poly};
 use co_math::parameters::DIGIT_COUNT;
 use co_ring::Modulus;
-use co_rns::{Pair, PairSpectrum, Tables, from_spectrum, to_spectrum};
+use co_rns::Pair;
 use std::alloc::Global;
 
 pub fn line(alloc: Global, call: &str, case: Case) -> Result<String, BadCase> {
@@ -16,7 +16,6 @@ pub fn line(alloc: Global, call: &str, case: Case) -> Result<String, BadCase> {
         "join" => put_pair(&mut line, &joined(alloc, case)?)?,
         "digit" => put_digits(alloc, &mut line, case)?,
         "mul" => put_pair(&mut line, &product(alloc, case)?)?,
-        "mul_add" => put_pair(&mut line, &product_by_values(alloc, case)?)?,
         "mul_plain" => put_pair(&mut line, &plain_product(alloc, case)?)?,
         "substitute" => put_pair(&mut line, &substituted(alloc, case)?)?,
         "shift" => put_pair(&mut line, &shifted(alloc, case)?)?,
@@ -70,22 +69,6 @@ fn both(alloc: Global, case: Case) -> Result<(Pair, Pair), BadCase>
 fn product(alloc: Global, case: Case) -> Result<Pair, BadCase> {
     let (a, b) = both(alloc, case)?;
     Ok(a.mul(alloc, &b)?)
-}
-
-/// The product, back from the products of values.
-fn product_by_values(alloc: Global, case: Case) -> Result<Pair, BadCase> {
-    let (a, b) = both(alloc, case)?;
-    let degree = degree_of(a.degree())?;
-    let tables = Tables::new(alloc, degree)?;
-    let mut of_a = PairSpectrum::zero(alloc, degree)?;
-    let mut of_b = PairSpectrum::zero(alloc, degree)?;
-    let mut sum = PairSpectrum::zero(alloc, degree)?;
-    to_spectrum(&tables, &a, &mut of_a);
-    to_spectrum(&tables, &b, &mut of_b);
-    sum.mul_add(&of_a, &of_b);
-    let mut back = Pair::zero(alloc, degree)?;
-    from_spectrum(&tables, &sum, &mut back);
-    Ok(back)
 }
 
 fn plain_product(alloc: Global, case: Case) -> Result<Pair, BadCase> {
