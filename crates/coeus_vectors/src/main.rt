@@ -65,28 +65,27 @@ fn line_of<R: Threads + Sync>(
     }
 }
 
-/// Prints the lines of a layer.
-fn run(rt: &HostRuntime, layer: &str) -> Result<(), Error> {
+/// The cases of a layer.
+fn read(rt: &HostRuntime, layer: &str) -> Result<Value, Error> {
     let path = format!(in rt.alloc(); "{layer}.json")?;
     let text = fs::read_to_string(rt, path.as_str())?;
-    let cases = Value::from_str(rt.alloc(), text.as_str())?;
-    let Some(cases) = cases.as_array() else {
-        bail!("no list of cases");
-    };
-    for (number, fields) in cases.iter().enumerate() {
-        let case = Case::new(fields);
-        let call = case.text("call");
-        match line_of(rt, rt.alloc(), layer, call, case) {
-            Ok(line) => println!(rt; "{layer} {number} {call}{line}")?,
-            Err(_) => println!(rt; "{layer} {number} {call}: no line")?,
-        }
-    }
-    Ok(())
+    Ok(Value::from_str(rt.alloc(), text.as_str())?)
 }
 
 fn main(rt: HostRuntime) -> Result<(), Error> {
     for layer in LAYERS {
-        run(&rt, layer)?;
+        let cases = read(&rt, layer)?;
+        let Some(cases) = cases.as_array() else {
+            bail!("no list of cases");
+        };
+        for (number, fields) in cases.iter().enumerate() {
+            let case = Case::new(fields);
+            let call = case.text("call");
+            match line_of(&rt, rt.alloc(), layer, call, case) {
+                Ok(line) => println!(rt; "{layer} {number} {call}{line}")?,
+                Err(_) => println!(rt; "{layer} {number} {call}: no line")?,
+            }
+        }
     }
     Ok(())
 }

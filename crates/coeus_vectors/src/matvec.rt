@@ -116,7 +116,10 @@ fn queries(
     let mut query = Vec::new(alloc);
     for block in 0..blocks {
         let name = format!(in alloc; "query{block}")?;
-        query.push(encrypted_slots(alloc, case, name.as_str(), secret, words)?)?;
+        let cipher = encrypted_slots(alloc, case, name.as_str(), secret, words)?;
+        if query.push(cipher).is_err() {
+            return Err(BadCase::OutOfMemory);
+        }
     }
     Ok(query)
 }
