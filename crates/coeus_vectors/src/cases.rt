@@ -56,14 +56,6 @@ impl<'a> Case<'a> {
         Ok(all)
     }
 
-    pub fn words(&self, alloc: Global, name: &str) -> Result<Vec<u64>, AllocError> {
-        let mut all = Vec::new(alloc);
-        for word in self.text(name).split_ascii_whitespace() {
-            all.push(word.parse().unwrap_or(0))?;
-        }
-        Ok(all)
-    }
-
     /// The bytes that a field spells in hexadecimal.
     pub fn bytes(&self, alloc: Global, name: &str) -> Result<Vec<u8>, BadCase> {
         match hex::decode(alloc, self.text(name)) {
