@@ -1,0 +1,192 @@
+//! Draws, encryption, decryption, and sums of ciphertexts.
+
+ghost use Rattle.std.specs.Prelude.{◌≡◌, length, IfOk};
+ghost use Rattle.co_bfv.specs.Ciphertexts.{ciphertext_degree};
+
+use crate::cases::{BadCase, Case, degree_of};
+use crate::lines::{put, put_ciphers, put_pair, put_poly, put_words};
+use crate::streams::{Stand, skip};
+use co_bfv::{Cipher, Secret, decrypt, encrypt, sample_error, sample_secret, sample_uniform};
+use co_ring::{Modulus, Poly};
+use co_slots::{decode_slots, encode_slots};
+use rand_core::Rng;
+use rand_xoshiro::SplitMix64;
+use std::alloc::Global;
+
+pub fn line<R: Stand>(
+    alloc: Global,
+    call: &str,
+    case: Case,
+    rng: &mut R,
+) -> Result<String, BadCase> {
+    let mut line = String::new(alloc);
+    let secret = drawn(alloc, case, rng)?;
+    match call {
+        "secret" => put_pair(&mut line, &secret.residues(alloc)?)?,
+        "uniform" => put_pair(&mut line, &sample_uniform(alloc, case.degree()?, rng)?)?,
+        "error" => put_pair(&mut line, &sample_error(alloc, case.degree()?, rng)?)?,
+        "decrypt" => put_decryption(alloc, &mut line, case, &secret)?,
+        "encrypt" => {
+            let cipher = encrypted(alloc, case, "message", &secret, rng)?;
+            put_cipher(alloc, &mut line, &secret, &cipher)?;
+        }
+        "times" => {
+            let one = encrypted(alloc, case, "message", &secret, rng)?;
+            put_multiple(alloc, &mut line, case, &secret, &one)?;
+        }
+        _ => {
+            let one = encrypted(alloc, case, "one", &secret, rng)?;
+            let other = encrypted(alloc, case, "other", &secret, rng)?;
+            put_combined(alloc, &mut line, call, case, &secret, one, &other)?;
+        }
+    }
+    put(&mut line, rng.stand() as u128)?;
+    Ok(line)
+}
+
+/// A secret, behind which some words are passed over.
+pub fn drawn<R: Rng>(alloc: Global, case: Case, rng: &mut R) -> Result<Secret, BadCase> {
+    let secret = sample_secret(alloc, case.degree()?, rng)?;
+    skip(rng, case.number("skip"));
+    Ok(secret)
+}
+
+/// The encryption of the message of a field.
+pub fn encrypted<R: Rng>(
+    alloc: Global,
+    case: Case,
+    name: &str,
+    secret: &Secret,
+    rng: &mut R,
+) -> Result<Cipher, BadCase>
+    ensures { IfOk result (λ c. ciphertext_degree c ≡ length secret.now) }
+{
+    let message = case.poly(alloc, Modulus::Plain, name)?;
+    if message.degree() != secret.degree() {
+        return Err(BadCase::Unfit);
+    }
+    Ok(encrypt(alloc, secret, &message, rng)?)
+}
+
+/// The encryption of the slots of a field.
+pub fn encrypted_slots(
+    alloc: Global,
+    case: Case,
+    name: &str,
+    secret: &Secret,
+    rng: &mut SplitMix64,
+) -> Result<Cipher, BadCase>
+    ensures { IfOk result (λ c. ciphertext_degree c ≡ length secret.now) }
+{
+    let slots = case.residues(alloc, Modulus::Plain, name)?;
+    let message = encode_slots(alloc, degree_of(slots.len())?, &slots)?;
+    if message.degree() != secret.degree() {
+        return Err(BadCase::Unfit);
+    }
+    Ok(encrypt(alloc, secret, &message, rng)?)
+}
+
+fn opened(alloc: Global, secret: &Secret, cipher: &Cipher) -> Result<Poly, BadCase>
+    ensures { IfOk result (λ p. p.modulus ≡ Modulus.Plain) }
+{
+    if cipher.degree() != secret.degree() {
+        return Err(BadCase::Unfit);
+    }
+    Ok(decrypt(alloc, secret, cipher)?)
+}
+
+/// What a ciphertext opens to.
+pub fn put_opened(
+    alloc: Global,
+    line: &mut String,
+    secret: &Secret,
+    cipher: &Cipher,
+) -> Result<(), BadCase> {
+    put_poly(line, &opened(alloc, secret, cipher)?)?;
+    Ok(())
+}
+
+/// The slots that a ciphertext opens to.
+pub fn put_opened_slots(
+    alloc: Global,
+    line: &mut String,
+    secret: &Secret,
+    cipher: &Cipher,
+) -> Result<(), BadCase> {
+    let message = opened(alloc, secret, cipher)?;
+    put_words(line, &decode_slots(alloc, &message)?)?;
+    Ok(())
+}
+
+/// A ciphertext, and what it opens to.
+pub fn put_cipher(
+    alloc: Global,
+    line: &mut String,
+    secret: &Secret,
+    cipher: &Cipher,
+) -> Result<(), BadCase> {
+    put_pair(line, cipher.c0())?;
+    put_pair(line, cipher.c1())?;
+    put_opened(alloc, line, secret, cipher)
+}
+
+fn put_decryption(
+    alloc: Global,
+    line: &mut String,
+    case: Case,
+    secret: &Secret,
+) -> Result<(), BadCase> {
+    let c0 = case.pair(alloc, "c0")?;
+    let c1 = case.pair(alloc, "c1")?;
+    if c0.degree() != c1.degree() {
+        return Err(BadCase::Unfit);
+    }
+    put_opened(alloc, line, secret, &Cipher::from_parts(c0, c1))
+}
+
+/// What a sum, a difference or a product with a plain polynomial opens to, and its digest.
+fn put_combined(
+    alloc: Global,
+    line: &mut String,
+    call: &str,
+    case: Case,
+    secret: &Secret,
+    mut one: Cipher,
+    other: &Cipher,
+) -> Result<(), BadCase> {
+    if one.degree() != other.degree() {
+        return Err(BadCase::Unfit);
+    }
+    match call {
+        "sum" => one.add_in(other),
+        "difference" => one.sub_in(other),
+        "product" => one = plain_product(alloc, case, &one)?,
+        _ => return Err(BadCase::Unfit),
+    }
+    put_opened(alloc, line, secret, &one)?;
+    put_ciphers(alloc, line, &[one])?;
+    Ok(())
+}
+
+fn plain_product(alloc: Global, case: Case, cipher: &Cipher) -> Result<Cipher, BadCase> {
+    let plain = case.poly(alloc, Modulus::Plain, "plain")?;
+    if plain.degree() != cipher.degree() {
+        return Err(BadCase::Unfit);
+    }
+    Ok(cipher.mul_plain(alloc, &plain)?)
+}
+
+/// What so many times a ciphertext opens to.
+fn put_multiple(
+    alloc: Global,
+    line: &mut String,
+    case: Case,
+    secret: &Secret,
+    one: &Cipher,
+) -> Result<(), BadCase> {
+    let mut sum = Cipher::zero(alloc, degree_of(one.degree())?)?;
+    for _ in 0..case.number("count") {
+        sum.add_in(one);
+    }
+    put_opened(alloc, line, secret, &sum)
+}

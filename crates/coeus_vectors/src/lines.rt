@@ -1,0 +1,78 @@
+//! What came of a call, as a line of text: each number or word behind a space.
+
+use co_bfv::Cipher;
+use co_math::parameters::{FIRST_MODULUS, SECOND_MODULUS};
+use co_ring::Poly;
+use co_rns::Pair;
+use sha2::{Digest, Sha256};
+use std::alloc::{AllocError, Global};
+
+pub fn put(line: &mut String, number: u128) -> Result<(), AllocError> {
+    write!(line, " {number}")
+}
+
+pub fn put_text(line: &mut String, text: &str) -> Result<(), AllocError> {
+    write!(line, " {text}")
+}
+
+pub fn put_numbers(line: &mut String, numbers: &[u32]) -> Result<(), AllocError> {
+    for number in numbers {
+        put(line, *number as u128)?;
+    }
+    Ok(())
+}
+
+pub fn put_words(line: &mut String, words: &[u64]) -> Result<(), AllocError> {
+    for word in words {
+        put(line, *word as u128)?;
+    }
+    Ok(())
+}
+
+pub fn put_poly(line: &mut String, poly: &Poly) -> Result<(), AllocError> {
+    for k in 0..poly.degree() {
+        put(line, poly.coeff(k) as u128)?;
+    }
+    Ok(())
+}
+
+pub fn put_pair(line: &mut String, pair: &Pair) -> Result<(), AllocError> {
+    for k in 0..pair.degree() {
+        put(line, pair.compose(k))?;
+    }
+    Ok(())
+}
+
+/// The bytes in hexadecimal.
+pub fn put_bytes(alloc: Global, line: &mut String, bytes: &[u8]) -> Result<(), AllocError> {
+    let text = hex::encode(alloc, bytes)?;
+    put_text(line, text.as_str())
+}
+
+/// The digest of some bytes.
+pub fn put_digest(alloc: Global, line: &mut String, bytes: &[u8]) -> Result<(), AllocError> {
+    put_bytes(alloc, line, &Sha256::digest(bytes))
+}
+
+/// Adds the wire bytes of a polynomial: of each coefficient the residues modulo q1 and q2, seven
+/// bytes each, the low byte first.
+pub fn spell_pair(bytes: &mut Vec<u8>, pair: &Pair) -> Result<(), AllocError> {
+    for k in 0..pair.degree() {
+        let coefficient = pair.compose(k);
+        let first = (coefficient % FIRST_MODULUS as u128) as u64;
+        let second = (coefficient % SECOND_MODULUS as u128) as u64;
+        bytes.extend_from_slice(&first.to_le_bytes()[..7])?;
+        bytes.extend_from_slice(&second.to_le_bytes()[..7])?;
+    }
+    Ok(())
+}
+
+/// The digest of the wire bytes of ciphertexts, in order.
+pub fn put_ciphers(alloc: Global, line: &mut String, ciphers: &[Cipher]) -> Result<(), AllocError> {
+    let mut bytes = Vec::new(alloc);
+    for cipher in ciphers {
+        spell_pair(&mut bytes, cipher.c0())?;
+        spell_pair(&mut bytes, cipher.c1())?;
+    }
+    put_digest(alloc, line, &bytes)
+}

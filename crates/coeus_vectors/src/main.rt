@@ -1,0 +1,91 @@
+//! Gives the layers the cases that other programs worked out, and prints what comes of them.
+//!
+//! `data/LAYER.json` lists the cases of a layer. A case is an object of texts: the name of a `call`,
+//! and what that call is given. For each the program prints a line: the layer, the number of the
+//! case, the call, and what came of it. The file `stdout` has the lines that must come. They were
+//! made from outside values, never from what this program printed.
+//!
+//! A further case is an object in a file of data/ and a line in `stdout`. A further layer is a file
+//! of data/, a module with a function `line`, its name in `LAYERS` and an arm of `line_of`.
+#![tactic(auto)]
+
+mod bfv;
+mod bucket;
+mod cases;
+mod library;
+mod lines;
+mod matvec;
+mod noise;
+mod pack;
+mod pir;
+mod ring;
+mod rns;
+mod rot;
+mod slots;
+mod streams;
+mod switch;
+mod text;
+mod tfidf;
+
+use anyhow::{Error, bail};
+use cases::{BadCase, Case};
+use serde_json::Value;
+use std::alloc::Global;
+use std::fs;
+use std::thread::Threads;
+
+/// The layers, lowest first.
+const LAYERS: [&str; 14] = [
+    "ring", "rns", "slots", "noise", "bfv", "switch", "rot", "matvec", "pir", "bucket", "text",
+    "tfidf", "pack", "library",
+];
+
+fn line_of<R: Threads + Sync>(
+    rt: &R,
+    alloc: Global,
+    layer: &str,
+    call: &str,
+    case: Case,
+) -> Result<String, BadCase> {
+    match layer {
+        "ring" => ring::line(alloc, call, case),
+        "rns" => rns::line(alloc, call, case),
+        "slots" => slots::line(alloc, call, case),
+        "noise" => noise::line(alloc, call, case),
+        "bfv" | "switch" => streams::line(alloc, layer, call, case),
+        "rot" => rot::line(alloc, call, case),
+        "matvec" => matvec::line(rt, alloc, call, case),
+        "pir" => pir::line(rt, alloc, call, case),
+        "bucket" => bucket::line(alloc, call, case),
+        "text" => text::line(alloc, call, case),
+        "tfidf" => tfidf::line(alloc, call, case),
+        "pack" => pack::line(alloc, call, case),
+        "library" => library::line(alloc, call, case),
+        _ => Err(BadCase::Unfit),
+    }
+}
+
+/// The cases of a layer.
+fn read(rt: &HostRuntime, layer: &str) -> Result<Value, Error> {
+    let path = format!(in rt.alloc(); "{layer}.json")?;
+    let text = fs::read_to_string(rt, path.as_str())?;
+    Ok(Value::from_str(rt.alloc(), text.as_str())?)
+}
+
+fn main(rt: HostRuntime) -> Result<(), Error> {
+    for layer in LAYERS {
+        let cases = read(&rt, layer)?;
+        let Some(cases) = cases.as_array() else {
+            bail!("no list of cases");
+        };
+        for (number, fields) in cases.iter().enumerate() {
+            let case = Case::new(fields);
+            let call = case.text("call");
+            match line_of(&rt, rt.alloc(), layer, call, case) {
+                Ok(line) => println!(rt; "{layer} {number} {call}{line}")?,
+                Err(_) => println!(rt; "{layer} {number} {call}: no line")?,
+            }
+        }
+    }
+    Ok(())
+}

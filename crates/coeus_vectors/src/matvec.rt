@@ -1,0 +1,156 @@
+//! Score replies.
+
+ghost use Rattle.std.specs.Prelude.{ℕ, ◌≡◌, ◌+◌, ◌<◌, length, slice_index_or, IsTrue, IfOk, All};
+ghost use Rattle.co_bfv.specs.Ciphertexts.{ciphertext_degree};
+ghost use Rattle.co_matvec.specs.Weights.{AreEntries, Precedes};
+
+use crate::bfv::{encrypted_slots, put_opened_slots};
+use crate::cases::{BadCase, Case};
+use crate::lines::put_ciphers;
+use crate::switch::keyed;
+use co_bfv::{Cipher, Secret};
+use co_board::OpenGate;
+use co_matvec::{Weights, score};
+use co_ring::Degree;
+use co_switch::Steps;
+use rand_core::SeedableRng;
+use rand_xoshiro::SplitMix64;
+use std::alloc::{AllocError, Global};
+use std::thread::Threads;
+
+pub fn line<R: Threads + Sync>(
+    rt: &R,
+    alloc: Global,
+    call: &str,
+    case: Case,
+) -> Result<String, BadCase> {
+    let mut line = String::new(alloc);
+    match call {
+        "score" | "slots" => put_scores(rt, alloc, &mut line, call, case)?,
+        _ => return Err(BadCase::Unfit),
+    }
+    Ok(line)
+}
+
+/// The entries that a field lists, three numbers each: term, document and weight.
+fn entries(alloc: Global, case: Case) -> Result<Vec<(u32, u32, u16)>, AllocError> {
+    let numbers = case.numbers(alloc, "weights")?;
+    let mut all = Vec::new(alloc);
+    for entry in numbers.chunks_exact(3) {
+        if let [term, document, weight] = entry {
+            all.push((*term, *document, u16::try_from(*weight).unwrap_or(0)))?;
+        }
+    }
+    Ok(all)
+}
+
+/// Whether an entry is in range.
+fn is_within(documents: u32, terms: u32, entry: &(u32, u32, u16)) -> bool
+    ensures { IsTrue result → (entry.now.0 < terms) × (entry.now.1 < documents) }
+{
+    entry.0 < terms && entry.1 < documents
+}
+
+/// Whether an entry comes before another.
+fn precedes(entry: &(u32, u32, u16), next: &(u32, u32, u16)) -> bool
+    ensures { IsTrue result → Precedes entry.now next.now }
+{
+    entry.0 < next.0 || entry.0 == next.0 && entry.1 < next.1
+}
+
+/// Whether all entries are in range.
+fn are_within(documents: u32, terms: u32, entries: &[(u32, u32, u16)]) -> bool
+    ensures { IsTrue result → All (λ e. (e.0 < terms) × (e.1 < documents)) entries.now }
+{
+    for entry in entries {
+        if !is_within(documents, terms, entry) {
+            return false;
+        }
+    }
+    true
+}
+
+/// Whether each entry comes before the next.
+fn ascend(entries: &[(u32, u32, u16)]) -> bool
+    ensures { IsTrue result → (i : ℕ) (d : ℕ × ℕ × ℕ) → i + 1 < length entries.now
+        → Precedes (slice_index_or entries.now i d) (slice_index_or entries.now (i + 1) d) }
+{
+    for next in 1..entries.len() {
+        if !precedes(&entries[next - 1], &entries[next]) {
+            return false;
+        }
+    }
+    true
+}
+
+/// Whether entries are in range and ascend.
+fn are_entries(documents: u32, terms: u32, entries: &[(u32, u32, u16)]) -> bool
+    ensures { IsTrue result → AreEntries documents terms entries.now }
+{
+    are_within(documents, terms, entries) && ascend(entries)
+}
+
+fn weights(alloc: Global, degree: Degree, case: Case) -> Result<Weights, BadCase>
+    ensures { IfOk result (λ w. w.degree ≡ degree) }
+{
+    let entries = entries(alloc, case)?;
+    let documents = case.number("documents");
+    let terms = case.number("terms");
+    if !are_entries(documents, terms, &entries) {
+        return Err(BadCase::Unfit);
+    }
+    Ok(Weights::new(alloc, degree, documents, terms, &entries)?)
+}
+
+/// The query of a case, drawn block by block.
+fn queries(
+    alloc: Global,
+    case: Case,
+    blocks: usize,
+    secret: &Secret,
+    words: &mut SplitMix64,
+) -> Result<Vec<Cipher>, BadCase>
+    ensures count { IfOk result (λ query. length query.items ≡ blocks) }
+    ensures degree { IfOk result (λ query. All (λ c. ciphertext_degree c ≡ length secret.now) query.items) }
+{
+    let mut query = Vec::new(alloc);
+    for block in 0..blocks {
+        let name = format!(in alloc; "query{block}")?;
+        let cipher = encrypted_slots(alloc, case, name.as_str(), secret, words)?;
+        if query.push(cipher).is_err() {
+            return Err(BadCase::OutOfMemory);
+        }
+    }
+    Ok(query)
+}
+
+/// The slots that the replies open to, behind the digests of query and replies where they are known.
+fn put_scores<R: Threads + Sync>(
+    rt: &R,
+    alloc: Global,
+    line: &mut String,
+    call: &str,
+    case: Case,
+) -> Result<(), BadCase> {
+    let mut words = SplitMix64::seed_from_u64(case.number("stream") as u64);
+    let (secret, keys) = keyed(alloc, case, &mut words)?;
+    let degree = case.degree()?;
+    let weights = weights(alloc, degree, case)?;
+    let query = queries(alloc, case, weights.keyword_blocks(), &secret, &mut words)?;
+    if degree.get() as usize != secret.degree() {
+        return Err(BadCase::Unfit);
+    }
+    let workers = case.number("workers").clamp(1, 64);
+    let mut steps = Steps::begin();
+    let replies = score(
+        rt, alloc, &weights, &keys, &query, workers, &OpenGate, &mut steps,
+    )?;
+    if call == "score" {
+        put_ciphers(alloc, line, &query)?;
+        put_ciphers(alloc, line, &replies)?;
+    }
+    for reply in &replies {
+        put_opened_slots(alloc, line, &secret, reply)?;
+    }
+    Ok(())
+}

@@ -1,0 +1,57 @@
+//! Shapes, and the test of their noise. What the bounds are stands in the black-box cases.
+
+use crate::cases::{BadCase, Case};
+use crate::lines::{put, put_text};
+use co_noise::{Shape, TestFault, test};
+use std::alloc::Global;
+
+pub fn line(alloc: Global, call: &str, case: Case) -> Result<String, BadCase> {
+    let mut line = String::new(alloc);
+    match call {
+        "shape" => put_shape(&mut line, case)?,
+        "test" => put_test(&mut line, case)?,
+        _ => return Err(BadCase::Unfit),
+    }
+    Ok(line)
+}
+
+fn shape(case: Case) -> Option<Shape> {
+    Shape::new(
+        case.number("degree"),
+        case.number("documents"),
+        case.number("terms"),
+        case.number("hits"),
+        case.number("salt"),
+        case.number("rows"),
+        case.number("bins"),
+        case.number("chunks"),
+    )
+}
+
+/// The numbers that follow from a shape.
+fn put_shape(line: &mut String, case: Case) -> Result<(), BadCase> {
+    match shape(case) {
+        Some(shape) => {
+            put(line, shape.keyword_blocks() as u128)?;
+            put(line, shape.document_blocks() as u128)?;
+            put(line, shape.levels() as u128)?;
+        }
+        None => put_text(line, "out of range")?,
+    }
+    Ok(())
+}
+
+fn put_test(line: &mut String, case: Case) -> Result<(), BadCase> {
+    let Some(shape) = shape(case) else {
+        return Err(BadCase::Unfit);
+    };
+    let answer = match test(&shape) {
+        Ok(_) => "yes",
+        Err(TestFault::RowsOverDegree { .. }) => "rows",
+        Err(TestFault::Score { .. }) => "score",
+        Err(TestFault::Records { .. }) => "records",
+        Err(TestFault::Bins { .. }) => "bins",
+    };
+    put_text(line, answer)?;
+    Ok(())
+}

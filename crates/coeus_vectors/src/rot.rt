@@ -1,0 +1,95 @@
+//! Rotations of a ciphertext.
+
+ghost use Rattle.std.specs.Prelude.{◌≡◌};
+ghost use Rattle.co_bfv.specs.Ciphertexts.{ciphertext_degree};
+ghost use Rattle.co_switch.specs.Keys.{keys_degree};
+
+use crate::bfv::{encrypted_slots, put_opened_slots};
+use crate::cases::{BadCase, Case};
+use crate::lines::{put, put_ciphers};
+use crate::switch::keyed;
+use co_bfv::Cipher;
+use co_rot::{Visitor, crown, parent, subtree_count, subtree_size, walk_subtree};
+use co_switch::{KeySet, Steps};
+use rand_core::SeedableRng;
+use rand_xoshiro::SplitMix64;
+use std::alloc::{AllocError, Global};
+
+pub fn line(alloc: Global, call: &str, case: Case) -> Result<String, BadCase> {
+    let mut line = String::new(alloc);
+    match call {
+        "parents" => put_parents(alloc, &mut line, case)?,
+        "rotations" => put_rotations(alloc, &mut line, case)?,
+        _ => return Err(BadCase::Unfit),
+    }
+    Ok(line)
+}
+
+fn put_parents(alloc: Global, line: &mut String, case: Case) -> Result<(), BadCase> {
+    for number in case.numbers(alloc, "of")?.iter() {
+        if *number > 0 {
+            put(line, parent(*number) as u128)?;
+        }
+    }
+    Ok(())
+}
+
+/// Keeps the rotations that it is shown.
+#[derive(Drop)]
+struct Kept {
+    alloc: Global,
+    degree: usize,
+    rotations: Vec<Cipher>,
+}
+
+impl Visitor for Kept {
+    ghost visits = { λ _ _ _ _. Unit {0} };
+
+    ghost degree = { λ k. k.degree };
+
+    fn visit(&mut self, _rotation: u32, cipher: &Cipher) -> Result<(), AllocError> {
+        let copy = cipher.copy(self.alloc)?;
+        self.rotations.push(copy)?;
+        Ok(())
+    }
+}
+
+/// Shows a visitor all rotations, subtree by subtree.
+fn walk_all<V: Visitor>(
+    alloc: Global,
+    query: &Cipher,
+    keys: &KeySet,
+    visitor: &mut V,
+) -> Result<(), AllocError>
+    requires query { ciphertext_degree query.now ≡ keys_degree keys.now }
+    requires visitor { V.degree visitor.old ≡ keys_degree keys.now }
+{
+    let _ = keys.rotations();
+    let mut steps = Steps::begin();
+    let roots = crown(alloc, query, keys, &mut steps)?;
+    let size = subtree_size(keys);
+    for r in 0..subtree_count(keys) {
+        walk_subtree(alloc, r * size, &roots[r as usize], keys, visitor, &mut steps)?;
+    }
+    Ok(())
+}
+
+/// The rotations of the encryption of some slots: of each the digest, and the slots that it opens to.
+fn put_rotations(alloc: Global, line: &mut String, case: Case) -> Result<(), BadCase> {
+    let mut words = SplitMix64::seed_from_u64(case.number("stream") as u64);
+    let (secret, keys) = keyed(alloc, case, &mut words)?;
+    let query = encrypted_slots(alloc, case, "slots", &secret, &mut words)?;
+    let mut kept = Kept {
+        alloc,
+        degree: secret.degree(),
+        rotations: Vec::new(alloc),
+    };
+    walk_all(alloc, &query, &keys, &mut kept)?;
+    for turned in &kept.rotations {
+        put_opened_slots(alloc, line, &secret, turned)?;
+    }
+    for turned in kept.rotations {
+        put_ciphers(alloc, line, &[turned])?;
+    }
+    Ok(())
+}

@@ -1,0 +1,47 @@
+//! Weights and the index.
+
+use crate::cases::{BadCase, Case};
+use crate::lines::{put, put_numbers, put_text};
+use crate::text::put_terms;
+use co_corpus::{Corpus, read_corpus};
+use co_tfidf::{build_index, quarter_bits};
+use std::alloc::Global;
+
+pub fn line(alloc: Global, call: &str, case: Case) -> Result<String, BadCase> {
+    let mut line = String::new(alloc);
+    match call {
+        "quarter_bits" => put_quarter_bits(&mut line, case)?,
+        "index" => put_index(alloc, &mut line, case)?,
+        _ => return Err(BadCase::Unfit),
+    }
+    Ok(line)
+}
+
+fn put_quarter_bits(line: &mut String, case: Case) -> Result<(), BadCase> {
+    let documents = case.number("documents");
+    let frequency = case.number("frequency");
+    if frequency == 0 || frequency > documents || documents > 65_536 {
+        return Err(BadCase::Unfit);
+    }
+    put(line, quarter_bits(documents, frequency) as u128)?;
+    Ok(())
+}
+
+/// The corpus whose lines a field holds.
+pub fn corpus(alloc: Global, case: Case) -> Result<Corpus, BadCase> {
+    match read_corpus(alloc, case.text("corpus").as_bytes()) {
+        Ok(corpus) => Ok(corpus),
+        Err(_) => return Err(BadCase::Unfit),
+    }
+}
+
+/// The vocabulary, and then term, document and weight of each entry.
+fn put_index(alloc: Global, line: &mut String, case: Case) -> Result<(), BadCase> {
+    let index = build_index(alloc, &corpus(alloc, case)?, case.number("terms"))?;
+    put_terms(line, &index.terms)?;
+    put_text(line, "weights")?;
+    for (term, document, weight) in index.weights.as_slice() {
+        put_numbers(line, &[*term, *document, *weight as u32])?;
+    }
+    Ok(())
+}
