@@ -1,6 +1,6 @@
 //! Draws, encryption, decryption, and sums of ciphertexts.
 
-ghost use Rattle.std.specs.Prelude.{◌≡◌, length, IfOk};
+ghost use Rattle.std.specs.Prelude.{◌≡◌, length, All, IfOk, IsTrue};
 ghost use Rattle.co_bfv.specs.Ciphertexts.{ciphertext_degree};
 
 use crate::cases::{BadCase, Case, degree_of};
@@ -21,27 +21,54 @@ pub fn line<R: Stand>(
 ) -> Result<String, BadCase> {
     let mut line = String::new(alloc);
     let secret = drawn(alloc, case, rng)?;
-    match call {
-        "secret" => put_pair(&mut line, &secret.residues(alloc)?)?,
-        "uniform" => put_pair(&mut line, &sample_uniform(alloc, case.degree()?, rng)?)?,
-        "error" => put_pair(&mut line, &sample_error(alloc, case.degree()?, rng)?)?,
-        "decrypt" => put_decryption(alloc, &mut line, case, &secret)?,
-        "encrypt" => {
-            let cipher = encrypted(alloc, case, "message", &secret, rng)?;
-            put_cipher(alloc, &mut line, &secret, &cipher)?;
-        }
-        "times" => {
-            let one = encrypted(alloc, case, "message", &secret, rng)?;
-            put_multiple(alloc, &mut line, case, &secret, &one)?;
-        }
-        _ => {
-            let one = encrypted(alloc, case, "one", &secret, rng)?;
-            let other = encrypted(alloc, case, "other", &secret, rng)?;
-            put_combined(alloc, &mut line, call, case, &secret, one, &other)?;
-        }
-    }
+    put_call(alloc, &mut line, call, case, &secret, rng)?;
     put(&mut line, rng.stand() as u128)?;
     Ok(line)
+}
+
+fn put_call<R: Rng>(
+    alloc: Global,
+    line: &mut String,
+    call: &str,
+    case: Case,
+    secret: &Secret,
+    rng: &mut R,
+) -> Result<(), BadCase> {
+    match call {
+        "secret" => put_secret(alloc, line, secret),
+        "uniform" => put_uniform(alloc, line, case, rng),
+        "error" => put_error(alloc, line, case, rng),
+        "decrypt" => put_decryption(alloc, line, case, secret),
+        "encrypt" => put_encryption(alloc, line, case, secret, rng),
+        "times" => put_multiple(alloc, line, case, secret, rng),
+        "sum" | "difference" | "product" => put_combined(alloc, line, call, case, secret, rng),
+        _ => Err(BadCase::Unfit),
+    }
+}
+
+fn put_secret(alloc: Global, line: &mut String, secret: &Secret) -> Result<(), BadCase> {
+    let residues = secret.residues(alloc)?;
+    Ok(put_pair(line, &residues)?)
+}
+
+fn put_uniform<R: Rng>(
+    alloc: Global,
+    line: &mut String,
+    case: Case,
+    rng: &mut R,
+) -> Result<(), BadCase> {
+    let drawn = sample_uniform(alloc, case.degree()?, rng)?;
+    Ok(put_pair(line, &drawn)?)
+}
+
+fn put_error<R: Rng>(
+    alloc: Global,
+    line: &mut String,
+    case: Case,
+    rng: &mut R,
+) -> Result<(), BadCase> {
+    let drawn = sample_error(alloc, case.degree()?, rng)?;
+    Ok(put_pair(line, &drawn)?)
 }
 
 /// A secret, behind which some words are passed over.
@@ -86,6 +113,13 @@ pub fn encrypted_slots(
     Ok(encrypt(alloc, secret, &message, rng)?)
 }
 
+/// Whether all ciphertexts have so many coefficients.
+pub fn have_degree(ciphers: &[Cipher], degree: usize) -> bool
+    ensures { IsTrue result → All (λ c. ciphertext_degree c ≡ degree) ciphers.now }
+{
+    ciphers.iter().all(|cipher| cipher.degree() == degree)
+}
+
 fn opened(alloc: Global, secret: &Secret, cipher: &Cipher) -> Result<Poly, BadCase>
     ensures { IfOk result (λ p. p.modulus ≡ Modulus.Plain) }
 {
@@ -96,7 +130,7 @@ fn opened(alloc: Global, secret: &Secret, cipher: &Cipher) -> Result<Poly, BadCa
 }
 
 /// What a ciphertext opens to.
-pub fn put_opened(
+fn put_opened(
     alloc: Global,
     line: &mut String,
     secret: &Secret,
@@ -107,7 +141,7 @@ pub fn put_opened(
 }
 
 /// The slots that a ciphertext opens to.
-pub fn put_opened_slots(
+fn put_opened_slots(
     alloc: Global,
     line: &mut String,
     secret: &Secret,
@@ -115,6 +149,32 @@ pub fn put_opened_slots(
 ) -> Result<(), BadCase> {
     let message = opened(alloc, secret, cipher)?;
     put_words(line, &decode_slots(alloc, &message)?)?;
+    Ok(())
+}
+
+/// What each ciphertext opens to.
+pub fn put_all_opened(
+    alloc: Global,
+    line: &mut String,
+    secret: &Secret,
+    ciphers: &[Cipher],
+) -> Result<(), BadCase> {
+    for cipher in ciphers {
+        put_opened(alloc, line, secret, cipher)?;
+    }
+    Ok(())
+}
+
+/// The slots that each ciphertext opens to.
+pub fn put_all_slots(
+    alloc: Global,
+    line: &mut String,
+    secret: &Secret,
+    ciphers: &[Cipher],
+) -> Result<(), BadCase> {
+    for cipher in ciphers {
+        put_opened_slots(alloc, line, secret, cipher)?;
+    }
     Ok(())
 }
 
@@ -130,42 +190,69 @@ pub fn put_cipher(
     put_opened(alloc, line, secret, cipher)
 }
 
+fn put_encryption<R: Rng>(
+    alloc: Global,
+    line: &mut String,
+    case: Case,
+    secret: &Secret,
+    rng: &mut R,
+) -> Result<(), BadCase> {
+    let cipher = encrypted(alloc, case, "message", secret, rng)?;
+    put_cipher(alloc, line, secret, &cipher)
+}
+
 fn put_decryption(
     alloc: Global,
     line: &mut String,
     case: Case,
     secret: &Secret,
 ) -> Result<(), BadCase> {
+    let cipher = given(alloc, case)?;
+    put_opened(alloc, line, secret, &cipher)
+}
+
+/// The ciphertext whose parts a case lists.
+fn given(alloc: Global, case: Case) -> Result<Cipher, BadCase> {
     let c0 = case.pair(alloc, "c0")?;
     let c1 = case.pair(alloc, "c1")?;
     if c0.degree() != c1.degree() {
         return Err(BadCase::Unfit);
     }
-    put_opened(alloc, line, secret, &Cipher::from_parts(c0, c1))
+    Ok(Cipher::from_parts(c0, c1))
 }
 
 /// What a sum, a difference or a product with a plain polynomial opens to, and its digest.
-fn put_combined(
+fn put_combined<R: Rng>(
     alloc: Global,
     line: &mut String,
     call: &str,
     case: Case,
     secret: &Secret,
+    rng: &mut R,
+) -> Result<(), BadCase> {
+    let one = encrypted(alloc, case, "one", secret, rng)?;
+    let other = encrypted(alloc, case, "other", secret, rng)?;
+    let combined = combined(alloc, call, case, one, &other)?;
+    put_opened(alloc, line, secret, &combined)?;
+    Ok(put_ciphers(alloc, line, &[combined])?)
+}
+
+fn combined(
+    alloc: Global,
+    call: &str,
+    case: Case,
     mut one: Cipher,
     other: &Cipher,
-) -> Result<(), BadCase> {
+) -> Result<Cipher, BadCase> {
     if one.degree() != other.degree() {
         return Err(BadCase::Unfit);
     }
     match call {
         "sum" => one.add_in(other),
         "difference" => one.sub_in(other),
-        "product" => one = plain_product(alloc, case, &one)?,
-        _ => return Err(BadCase::Unfit),
+        _ => return plain_product(alloc, case, &one),
     }
-    put_opened(alloc, line, secret, &one)?;
-    put_ciphers(alloc, line, &[one])?;
-    Ok(())
+    Ok(one)
 }
 
 fn plain_product(alloc: Global, case: Case, cipher: &Cipher) -> Result<Cipher, BadCase> {
@@ -176,17 +263,24 @@ fn plain_product(alloc: Global, case: Case, cipher: &Cipher) -> Result<Cipher, B
     Ok(cipher.mul_plain(alloc, &plain)?)
 }
 
-/// What so many times a ciphertext opens to.
-fn put_multiple(
+/// What so many times an encryption opens to.
+fn put_multiple<R: Rng>(
     alloc: Global,
     line: &mut String,
     case: Case,
     secret: &Secret,
-    one: &Cipher,
+    rng: &mut R,
 ) -> Result<(), BadCase> {
+    let one = encrypted(alloc, case, "message", secret, rng)?;
     let mut sum = Cipher::zero(alloc, degree_of(one.degree())?)?;
-    for _ in 0..case.number("count") {
+    add_times(&mut sum, &one, case.number("count"));
+    put_opened(alloc, line, secret, &sum)
+}
+
+fn add_times(sum: &mut Cipher, one: &Cipher, count: u32)
+    requires { ciphertext_degree sum.old ≡ ciphertext_degree one.now }
+{
+    for _turn in 0..count {
         sum.add_in(one);
     }
-    put_opened(alloc, line, secret, &sum)
 }

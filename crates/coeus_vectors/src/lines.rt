@@ -67,12 +67,27 @@ pub fn spell_pair(bytes: &mut Vec<u8>, pair: &Pair) -> Result<(), AllocError> {
     Ok(())
 }
 
+/// Adds the wire bytes of a ciphertext.
+fn spell_cipher(bytes: &mut Vec<u8>, cipher: &Cipher) -> Result<(), AllocError> {
+    spell_pair(bytes, cipher.c0())?;
+    spell_pair(bytes, cipher.c1())
+}
+
 /// The digest of the wire bytes of ciphertexts, in order.
 pub fn put_ciphers(alloc: Global, line: &mut String, ciphers: &[Cipher]) -> Result<(), AllocError> {
     let mut bytes = Vec::new(alloc);
     for cipher in ciphers {
-        spell_pair(&mut bytes, cipher.c0())?;
-        spell_pair(&mut bytes, cipher.c1())?;
+        spell_cipher(&mut bytes, cipher)?;
     }
     put_digest(alloc, line, &bytes)
+}
+
+/// The digest of each ciphertext.
+pub fn put_each(alloc: Global, line: &mut String, ciphers: &[Cipher]) -> Result<(), AllocError> {
+    for cipher in ciphers {
+        let mut bytes = Vec::new(alloc);
+        spell_cipher(&mut bytes, cipher)?;
+        put_digest(alloc, line, &bytes)?;
+    }
+    Ok(())
 }

@@ -1,18 +1,17 @@
 //! Score replies.
 
 ghost use Rattle.std.specs.Prelude.{ℕ, ◌≡◌, ◌+◌, ◌<◌, length, slice_index_or, IsTrue, IfOk, All};
-ghost use Rattle.co_bfv.specs.Ciphertexts.{ciphertext_degree};
 ghost use Rattle.co_matvec.specs.Weights.{AreEntries, Precedes};
+ghost use Rattle.co_switch.specs.Keys.{keys_degree};
 
-use crate::bfv::{encrypted_slots, put_opened_slots};
-use crate::cases::{BadCase, Case};
+use crate::bfv::{encrypted_slots, have_degree, put_all_slots};
+use crate::cases::{BadCase, Case, degree_of};
 use crate::lines::put_ciphers;
 use crate::switch::keyed;
 use co_bfv::{Cipher, Secret};
 use co_board::OpenGate;
 use co_matvec::{Weights, score};
-use co_ring::Degree;
-use co_switch::Steps;
+use co_switch::{KeySet, Steps};
 use rand_core::SeedableRng;
 use rand_xoshiro::SplitMix64;
 use std::alloc::{AllocError, Global};
@@ -90,9 +89,11 @@ fn are_entries(documents: u32, terms: u32, entries: &[(u32, u32, u16)]) -> bool
     are_within(documents, terms, entries) && ascend(entries)
 }
 
-fn weights(alloc: Global, degree: Degree, case: Case) -> Result<Weights, BadCase>
-    ensures { IfOk result (λ w. w.degree ≡ degree) }
+/// The weights of a case, of a secret's degree.
+fn weights(alloc: Global, case: Case, secret: &Secret) -> Result<Weights, BadCase>
+    ensures { IfOk result (λ w. w.degree ≡ length secret.now) }
 {
+    let degree = degree_of(secret.degree())?;
     let entries = entries(alloc, case)?;
     let documents = case.number("documents");
     let terms = case.number("terms");
@@ -109,10 +110,7 @@ fn queries(
     blocks: usize,
     secret: &Secret,
     words: &mut SplitMix64,
-) -> Result<Vec<Cipher>, BadCase>
-    ensures count { IfOk result (λ query. length query.items ≡ blocks) }
-    ensures degree { IfOk result (λ query. All (λ c. ciphertext_degree c ≡ length secret.now) query.items) }
-{
+) -> Result<Vec<Cipher>, BadCase> {
     let mut query = Vec::new(alloc);
     for block in 0..blocks {
         let name = format!(in alloc; "query{block}")?;
@@ -122,6 +120,29 @@ fn queries(
         }
     }
     Ok(query)
+}
+
+/// The replies to a query.
+fn replies<R: Threads + Sync>(
+    rt: &R,
+    alloc: Global,
+    case: Case,
+    weights: &Weights,
+    secret: &Secret,
+    keys: &KeySet,
+    query: &[Cipher],
+) -> Result<Vec<Cipher>, BadCase>
+    requires weights { weights.now.degree ≡ length secret.now }
+    requires keys { keys_degree keys.now ≡ length secret.now }
+{
+    if query.len() != weights.keyword_blocks() || !have_degree(query, secret.degree()) {
+        return Err(BadCase::Unfit);
+    }
+    let workers = case.number("workers").clamp(1, 64);
+    let mut steps = Steps::begin();
+    Ok(score(
+        rt, alloc, weights, keys, query, workers, &OpenGate, &mut steps,
+    )?)
 }
 
 /// The slots that the replies open to, behind the digests of query and replies where they are known.
@@ -134,23 +155,12 @@ fn put_scores<R: Threads + Sync>(
 ) -> Result<(), BadCase> {
     let mut words = SplitMix64::seed_from_u64(case.number("stream") as u64);
     let (secret, keys) = keyed(alloc, case, &mut words)?;
-    let degree = case.degree()?;
-    let weights = weights(alloc, degree, case)?;
+    let weights = weights(alloc, case, &secret)?;
     let query = queries(alloc, case, weights.keyword_blocks(), &secret, &mut words)?;
-    if degree.get() as usize != secret.degree() {
-        return Err(BadCase::Unfit);
-    }
-    let workers = case.number("workers").clamp(1, 64);
-    let mut steps = Steps::begin();
-    let replies = score(
-        rt, alloc, &weights, &keys, &query, workers, &OpenGate, &mut steps,
-    )?;
+    let replies = replies(rt, alloc, case, &weights, &secret, &keys, &query)?;
     if call == "score" {
         put_ciphers(alloc, line, &query)?;
         put_ciphers(alloc, line, &replies)?;
     }
-    for reply in &replies {
-        put_opened_slots(alloc, line, &secret, reply)?;
-    }
-    Ok(())
+    put_all_slots(alloc, line, &secret, &replies)
 }

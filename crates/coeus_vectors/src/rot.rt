@@ -4,9 +4,9 @@ ghost use Rattle.std.specs.Prelude.{◌≡◌};
 ghost use Rattle.co_bfv.specs.Ciphertexts.{ciphertext_degree};
 ghost use Rattle.co_switch.specs.Keys.{keys_degree};
 
-use crate::bfv::{encrypted_slots, put_opened_slots};
+use crate::bfv::{encrypted_slots, put_all_slots};
 use crate::cases::{BadCase, Case};
-use crate::lines::{put, put_ciphers};
+use crate::lines::{put, put_each};
 use crate::switch::keyed;
 use co_bfv::Cipher;
 use co_rot::{Visitor, crown, parent, subtree_count, subtree_size, walk_subtree};
@@ -74,22 +74,24 @@ fn walk_all<V: Visitor>(
     Ok(())
 }
 
-/// The rotations of the encryption of some slots: of each the digest, and the slots that it opens to.
+/// The rotations of the encryption of some slots: the slots that each opens to, then the digests.
 fn put_rotations(alloc: Global, line: &mut String, case: Case) -> Result<(), BadCase> {
     let mut words = SplitMix64::seed_from_u64(case.number("stream") as u64);
     let (secret, keys) = keyed(alloc, case, &mut words)?;
     let query = encrypted_slots(alloc, case, "slots", &secret, &mut words)?;
+    let rotations = rotations(alloc, &query, &keys)?;
+    put_all_slots(alloc, line, &secret, &rotations)?;
+    Ok(put_each(alloc, line, &rotations)?)
+}
+
+fn rotations(alloc: Global, query: &Cipher, keys: &KeySet) -> Result<Vec<Cipher>, AllocError>
+    requires { ciphertext_degree query.now ≡ keys_degree keys.now }
+{
     let mut kept = Kept {
         alloc,
-        degree: secret.degree(),
+        degree: query.degree(),
         rotations: Vec::new(alloc),
     };
-    walk_all(alloc, &query, &keys, &mut kept)?;
-    for turned in &kept.rotations {
-        put_opened_slots(alloc, line, &secret, turned)?;
-    }
-    for turned in kept.rotations {
-        put_ciphers(alloc, line, &[turned])?;
-    }
-    Ok(())
+    walk_all(alloc, query, keys, &mut kept)?;
+    Ok(kept.rotations)
 }

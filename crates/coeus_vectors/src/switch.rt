@@ -7,10 +7,13 @@ use crate::bfv::{drawn, encrypted, put_cipher};
 use crate::cases::{BadCase, Case};
 use crate::lines::{put, put_digest, put_pair, put_text, spell_pair};
 use crate::streams::Stand;
-use co_bfv::{Secret, sample_secret};
+use co_bfv::{Cipher, Secret, sample_secret};
+use co_math::log2_up;
 use co_math::parameters::DIGIT_COUNT;
 use co_noise::{Shape, Tested};
-use co_switch::{GaloisKey, KeySet, Steps, apply, make_key, make_keys};
+use co_switch::{
+    GaloisKey, KeySet, Steps, apply, expansion_element, make_key, make_keys, rotation_element,
+};
 use rand_core::Rng;
 use std::alloc::{AllocError, Global};
 
@@ -21,14 +24,25 @@ pub fn line<R: Stand>(
     rng: &mut R,
 ) -> Result<String, BadCase> {
     let mut line = String::new(alloc);
-    match call {
-        "key" => put_key(alloc, &mut line, case, rng)?,
-        "switch" => put_switch(alloc, &mut line, case, rng)?,
-        "keys" | "elements" => put_keys(alloc, &mut line, call, case, rng)?,
-        _ => return Err(BadCase::Unfit),
-    }
+    put_call(alloc, &mut line, call, case, rng)?;
     put(&mut line, rng.stand() as u128)?;
     Ok(line)
+}
+
+fn put_call<R: Rng>(
+    alloc: Global,
+    line: &mut String,
+    call: &str,
+    case: Case,
+    rng: &mut R,
+) -> Result<(), BadCase> {
+    match call {
+        "key" => put_key(alloc, line, case, rng),
+        "switch" => put_switch(alloc, line, case, rng),
+        "keys" | "elements" => put_keys(alloc, line, call, case, rng),
+        "all_elements" => put_elements(line, case),
+        _ => Err(BadCase::Unfit),
+    }
 }
 
 /// The key of an element, for a secret.
@@ -45,7 +59,6 @@ fn key<R: Rng>(
     Ok(make_key(alloc, secret, element, rng)?)
 }
 
-/// The first pair of a key, and the digest of the others.
 fn put_key<R: Rng>(
     alloc: Global,
     line: &mut String,
@@ -54,12 +67,16 @@ fn put_key<R: Rng>(
 ) -> Result<(), BadCase> {
     let secret = drawn(alloc, case, rng)?;
     let key = key(alloc, case, &secret, rng)?;
+    Ok(put_pairs(alloc, line, &key)?)
+}
+
+/// The first pair of a key, and the digest of the others.
+fn put_pairs(alloc: Global, line: &mut String, key: &GaloisKey) -> Result<(), AllocError> {
     put_pair(line, key.k0(0))?;
     put_pair(line, key.k1(0))?;
     let mut others = Vec::new(alloc);
-    spell_digits(&mut others, &key, 1)?;
-    put_digest(alloc, line, &others)?;
-    Ok(())
+    spell_digits(&mut others, key, 1)?;
+    put_digest(alloc, line, &others)
 }
 
 /// Adds the wire bytes of a key, from a digit on.
@@ -81,11 +98,30 @@ fn put_switch<R: Rng>(
     let secret = drawn(alloc, case, rng)?;
     let cipher = encrypted(alloc, case, "message", &secret, rng)?;
     let key = key(alloc, case, &secret, rng)?;
+    let switched = switched(alloc, &cipher, &key)?;
+    put_cipher(alloc, line, &secret, &switched)
+}
+
+fn switched(alloc: Global, cipher: &Cipher, key: &GaloisKey) -> Result<Cipher, BadCase> {
     if cipher.degree() != key.degree() {
         return Err(BadCase::Unfit);
     }
-    let switched = apply(alloc, &cipher, &key, &mut Steps::begin())?;
-    put_cipher(alloc, line, &secret, &switched)
+    Ok(apply(alloc, cipher, key, &mut Steps::begin())?)
+}
+
+/// The elements of the rotation keys of a degree, and of all expansion keys that it may have.
+fn put_elements(line: &mut String, case: Case) -> Result<(), BadCase> {
+    let degree = case.degree()?.get();
+    let last = log2_up(degree / 2);
+    put_text(line, "rotations")?;
+    for b in 0..last {
+        put(line, rotation_element(degree, b) as u128)?;
+    }
+    put_text(line, "expansions")?;
+    for j in 0..last + 1 {
+        put(line, expansion_element(degree, j) as u128)?;
+    }
+    Ok(())
 }
 
 /// The shape of a case, with one document and term where it has none.
@@ -113,17 +149,26 @@ fn tested(case: Case) -> Result<Tested, BadCase> {
 pub fn keyed<R: Rng>(alloc: Global, case: Case, rng: &mut R) -> Result<(Secret, KeySet), BadCase>
     ensures { IfOk result (λ p. keys_degree p.1 ≡ length p.0) }
 {
-    let tested = tested(case)?;
-    let degree = case.degree()?;
-    if degree.get() != tested.shape().degree() {
-        return Err(BadCase::Unfit);
-    }
-    let secret = sample_secret(alloc, degree, rng)?;
-    let keys = make_keys(alloc, &tested, &secret, rng)?;
+    let secret = sample_secret(alloc, case.degree()?, rng)?;
+    let keys = keys(alloc, case, &secret, rng)?;
     Ok((secret, keys))
 }
 
-/// The elements of a set of keys, and the digest of its wire bytes where it is known.
+fn keys<R: Rng>(
+    alloc: Global,
+    case: Case,
+    secret: &Secret,
+    rng: &mut R,
+) -> Result<KeySet, BadCase>
+    ensures { IfOk result (λ keys. keys_degree keys ≡ length secret.now) }
+{
+    let tested = tested(case)?;
+    if secret.degree() != tested.shape().degree() as usize {
+        return Err(BadCase::Unfit);
+    }
+    Ok(make_keys(alloc, &tested, secret, rng)?)
+}
+
 fn put_keys<R: Rng>(
     alloc: Global,
     line: &mut String,
@@ -132,10 +177,20 @@ fn put_keys<R: Rng>(
     rng: &mut R,
 ) -> Result<(), BadCase> {
     let (_, keys) = keyed(alloc, case, rng)?;
+    Ok(put_key_set(alloc, line, call == "keys", &keys)?)
+}
+
+/// The elements of a set of keys, and the digest of its wire bytes where it is known.
+fn put_key_set(
+    alloc: Global,
+    line: &mut String,
+    whole: bool,
+    keys: &KeySet,
+) -> Result<(), AllocError> {
     let mut bytes = Vec::new(alloc);
     spell_keys(line, &mut bytes, "rotations", keys.rotations())?;
     spell_keys(line, &mut bytes, "expansions", keys.expansions())?;
-    if call == "keys" {
+    if whole {
         put_digest(alloc, line, &bytes)?;
     }
     Ok(())
