@@ -212,7 +212,7 @@ fn put_decryption(
 }
 
 /// The ciphertext whose parts a case lists.
-fn given(alloc: Global, case: Case) -> Result<Cipher, BadCase> {
+pub fn given(alloc: Global, case: Case) -> Result<Cipher, BadCase> {
     let c0 = case.pair(alloc, "c0")?;
     let c1 = case.pair(alloc, "c1")?;
     if c0.degree() != c1.degree() {

@@ -1,9 +1,9 @@
 //! What came of a call, as a line of text: each number or word behind a space.
 
 use co_bfv::Cipher;
-use co_math::parameters::{FIRST_MODULUS, SECOND_MODULUS};
 use co_ring::Poly;
 use co_rns::Pair;
+use co_wire::write_ciphers;
 use sha2::{Digest, Sha256};
 use std::alloc::{AllocError, Global};
 
@@ -54,40 +54,16 @@ pub fn put_digest(alloc: Global, line: &mut String, bytes: &[u8]) -> Result<(), 
     put_bytes(alloc, line, &Sha256::digest(bytes))
 }
 
-/// Adds the wire bytes of a polynomial: of each coefficient the residues modulo q1 and q2, seven
-/// bytes each, the low byte first.
-pub fn spell_pair(bytes: &mut Vec<u8>, pair: &Pair) -> Result<(), AllocError> {
-    for k in 0..pair.degree() {
-        let coefficient = pair.compose(k);
-        let first = (coefficient % FIRST_MODULUS as u128) as u64;
-        let second = (coefficient % SECOND_MODULUS as u128) as u64;
-        bytes.extend_from_slice(&first.to_le_bytes()[..7])?;
-        bytes.extend_from_slice(&second.to_le_bytes()[..7])?;
-    }
-    Ok(())
-}
-
-/// Adds the wire bytes of a ciphertext.
-fn spell_cipher(bytes: &mut Vec<u8>, cipher: &Cipher) -> Result<(), AllocError> {
-    spell_pair(bytes, cipher.c0())?;
-    spell_pair(bytes, cipher.c1())
-}
-
-/// The digest of the wire bytes of ciphertexts, in order.
+/// The digest of the bytes of ciphertexts, in order.
 pub fn put_ciphers(alloc: Global, line: &mut String, ciphers: &[Cipher]) -> Result<(), AllocError> {
-    let mut bytes = Vec::new(alloc);
-    for cipher in ciphers {
-        spell_cipher(&mut bytes, cipher)?;
-    }
-    put_digest(alloc, line, &bytes)
+    let bytes = write_ciphers(alloc, ciphers)?;
+    put_digest(alloc, line, bytes.as_slice())
 }
 
 /// The digest of each ciphertext.
 pub fn put_each(alloc: Global, line: &mut String, ciphers: &[Cipher]) -> Result<(), AllocError> {
-    for cipher in ciphers {
-        let mut bytes = Vec::new(alloc);
-        spell_cipher(&mut bytes, cipher)?;
-        put_digest(alloc, line, &bytes)?;
+    for one in ciphers.chunks(1) {
+        put_ciphers(alloc, line, one)?;
     }
     Ok(())
 }

@@ -26,6 +26,7 @@ mod streams;
 mod switch;
 mod text;
 mod tfidf;
+mod wire;
 
 use anyhow::{Error, bail};
 use cases::{BadCase, Case};
@@ -35,9 +36,9 @@ use std::fs;
 use std::thread::Threads;
 
 /// The layers, lowest first.
-const LAYERS: [&str; 14] = [
+const LAYERS: [&str; 15] = [
     "ring", "rns", "slots", "noise", "bfv", "switch", "rot", "matvec", "pir", "bucket", "text",
-    "tfidf", "pack", "library",
+    "tfidf", "pack", "library", "wire",
 ];
 
 fn line_of<R: Threads + Sync>(
@@ -61,6 +62,7 @@ fn line_of<R: Threads + Sync>(
         "tfidf" => tfidf::line(alloc, call, case),
         "pack" => pack::line(alloc, call, case),
         "library" => library::line(alloc, call, case),
+        "wire" => wire::line(alloc, call, case),
         _ => Err(BadCase::Unfit),
     }
 }

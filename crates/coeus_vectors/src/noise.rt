@@ -2,7 +2,7 @@
 
 use crate::cases::{BadCase, Case};
 use crate::lines::{put, put_text};
-use co_noise::{Shape, TestFault, test};
+use co_noise::{Shape, TestFault, Tested, test};
 use std::alloc::Global;
 
 pub fn line(alloc: Global, call: &str, case: Case) -> Result<String, BadCase> {
@@ -26,6 +26,17 @@ fn shape(case: Case) -> Option<Shape> {
         case.number("bins"),
         case.number("chunks"),
     )
+}
+
+/// The shape of a case, which passes the test.
+pub fn tested(case: Case) -> Result<Tested, BadCase> {
+    let Some(shape) = shape(case) else {
+        return Err(BadCase::Unfit);
+    };
+    match test(&shape) {
+        Ok(tested) => Ok(tested),
+        Err(_) => return Err(BadCase::Unfit),
+    }
 }
 
 /// The numbers that follow from a shape.

@@ -152,9 +152,7 @@ fn replied<R: Threads + Sync>(
     }
     let table = table(alloc, case, degree_of(query.degree())?, rows)?;
     let mut steps = Steps::begin();
-    Ok(answer(
-        rt, alloc, &table, keys, query, 2, &OpenGate, &mut steps,
-    )?)
+    Ok(answer(rt, alloc, &table, keys, query, 2, &OpenGate, &mut steps)?)
 }
 
 /// The bytes that a reply opens to, or the first place that spells none.

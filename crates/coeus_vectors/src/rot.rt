@@ -69,7 +69,14 @@ fn walk_all<V: Visitor>(
     let roots = crown(alloc, query, keys, &mut steps)?;
     let size = subtree_size(keys);
     for r in 0..subtree_count(keys) {
-        walk_subtree(alloc, r * size, &roots[r as usize], keys, visitor, &mut steps)?;
+        walk_subtree(
+            alloc,
+            r * size,
+            &roots[r as usize],
+            keys,
+            visitor,
+            &mut steps,
+        )?;
     }
     Ok(())
 }

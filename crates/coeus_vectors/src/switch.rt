@@ -5,15 +5,17 @@ ghost use Rattle.co_switch.specs.Keys.{keys_degree};
 
 use crate::bfv::{drawn, encrypted, put_cipher};
 use crate::cases::{BadCase, Case};
-use crate::lines::{put, put_digest, put_pair, put_text, spell_pair};
+use crate::lines::{put, put_digest, put_pair, put_text};
+use crate::noise::tested;
 use crate::streams::Stand;
 use co_bfv::{Cipher, Secret, sample_secret};
 use co_math::log2_up;
-use co_math::parameters::DIGIT_COUNT;
-use co_noise::{Shape, Tested};
+use co_math::parameters::{DIGIT_COUNT, FIRST_MODULUS, SECOND_MODULUS};
+use co_rns::Pair;
 use co_switch::{
     GaloisKey, KeySet, Steps, apply, expansion_element, make_key, make_keys, rotation_element,
 };
+use co_wire::write_keys;
 use rand_core::Rng;
 use std::alloc::{AllocError, Global};
 
@@ -75,15 +77,22 @@ fn put_pairs(alloc: Global, line: &mut String, key: &GaloisKey) -> Result<(), Al
     put_pair(line, key.k0(0))?;
     put_pair(line, key.k1(0))?;
     let mut others = Vec::new(alloc);
-    spell_digits(&mut others, key, 1)?;
+    for index in 1..DIGIT_COUNT {
+        spell_pair(&mut others, key.k0(index))?;
+        spell_pair(&mut others, key.k1(index))?;
+    }
     put_digest(alloc, line, &others)
 }
 
-/// Adds the wire bytes of a key, from a digit on.
-fn spell_digits(bytes: &mut Vec<u8>, key: &GaloisKey, from: u32) -> Result<(), AllocError> {
-    for index in from..DIGIT_COUNT {
-        spell_pair(bytes, key.k0(index))?;
-        spell_pair(bytes, key.k1(index))?;
+/// Adds the bytes of a polynomial: of each coefficient the residues modulo q1 and q2, seven bytes
+/// each, the low byte first.
+fn spell_pair(bytes: &mut Vec<u8>, pair: &Pair) -> Result<(), AllocError> {
+    for k in 0..pair.degree() {
+        let coefficient = pair.compose(k);
+        let first = (coefficient % FIRST_MODULUS as u128) as u64;
+        let second = (coefficient % SECOND_MODULUS as u128) as u64;
+        bytes.extend_from_slice(&first.to_le_bytes()[..7])?;
+        bytes.extend_from_slice(&second.to_le_bytes()[..7])?;
     }
     Ok(())
 }
@@ -124,27 +133,6 @@ fn put_elements(line: &mut String, case: Case) -> Result<(), BadCase> {
     Ok(())
 }
 
-/// The shape of a case, with one document and term where it has none.
-fn tested(case: Case) -> Result<Tested, BadCase> {
-    let shape = Shape::new(
-        case.number("degree"),
-        case.number("documents").max(1),
-        case.number("terms"),
-        1,
-        0,
-        case.number("rows").max(1),
-        case.number("bins").max(1),
-        1,
-    );
-    let Some(shape) = shape else {
-        return Err(BadCase::Unfit);
-    };
-    match co_noise::test(&shape) {
-        Ok(tested) => Ok(tested),
-        Err(_) => return Err(BadCase::Unfit),
-    }
-}
-
 /// A secret, and keys for it and the shape of a case.
 pub fn keyed<R: Rng>(alloc: Global, case: Case, rng: &mut R) -> Result<(Secret, KeySet), BadCase>
     ensures { IfOk result (λ p. keys_degree p.1 ≡ length p.0) }
@@ -154,12 +142,7 @@ pub fn keyed<R: Rng>(alloc: Global, case: Case, rng: &mut R) -> Result<(Secret, 
     Ok((secret, keys))
 }
 
-fn keys<R: Rng>(
-    alloc: Global,
-    case: Case,
-    secret: &Secret,
-    rng: &mut R,
-) -> Result<KeySet, BadCase>
+fn keys<R: Rng>(alloc: Global, case: Case, secret: &Secret, rng: &mut R) -> Result<KeySet, BadCase>
     ensures { IfOk result (λ keys. keys_degree keys ≡ length secret.now) }
 {
     let tested = tested(case)?;
@@ -180,32 +163,25 @@ fn put_keys<R: Rng>(
     Ok(put_key_set(alloc, line, call == "keys", &keys)?)
 }
 
-/// The elements of a set of keys, and the digest of its wire bytes where it is known.
+/// The elements of a set of keys, and the digest of its bytes where it is known.
 fn put_key_set(
     alloc: Global,
     line: &mut String,
     whole: bool,
     keys: &KeySet,
 ) -> Result<(), AllocError> {
-    let mut bytes = Vec::new(alloc);
-    spell_keys(line, &mut bytes, "rotations", keys.rotations())?;
-    spell_keys(line, &mut bytes, "expansions", keys.expansions())?;
+    put_elements_of(line, "rotations", keys.rotations())?;
+    put_elements_of(line, "expansions", keys.expansions())?;
     if whole {
-        put_digest(alloc, line, &bytes)?;
+        put_digest(alloc, line, write_keys(alloc, keys)?.as_slice())?;
     }
     Ok(())
 }
 
-fn spell_keys(
-    line: &mut String,
-    bytes: &mut Vec<u8>,
-    name: &str,
-    keys: &[GaloisKey],
-) -> Result<(), AllocError> {
+fn put_elements_of(line: &mut String, name: &str, keys: &[GaloisKey]) -> Result<(), AllocError> {
     put_text(line, name)?;
     for key in keys {
         put(line, key.element() as u128)?;
-        spell_digits(bytes, key, 0)?;
     }
     Ok(())
 }

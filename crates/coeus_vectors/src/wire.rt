@@ -1,0 +1,96 @@
+//! Requests and replies as bytes: how long they are, and ciphertexts both ways.
+
+use crate::bfv::given;
+use crate::cases::{BadCase, Case};
+use crate::lines::{put, put_bytes, put_text};
+use crate::noise::tested;
+use co_bfv::Cipher;
+use co_link::Target;
+use co_wire::{
+    WireFault, read_ciphers, record_chunks, reply_length, request_length, write_ciphers,
+};
+use std::alloc::{AllocError, Global};
+
+pub fn line(alloc: Global, call: &str, case: Case) -> Result<String, BadCase> {
+    let mut line = String::new(alloc);
+    match call {
+        "lengths" => put_lengths(&mut line, case)?,
+        "write" => put_written(alloc, &mut line, case)?,
+        "read" => put_reading(alloc, &mut line, case)?,
+        _ => return Err(BadCase::Unfit),
+    }
+    Ok(line)
+}
+
+/// The pieces of a record, then the lengths of the requests of each target, and of the replies.
+fn put_lengths(line: &mut String, case: Case) -> Result<(), BadCase> {
+    let tested = tested(case)?;
+    put(line, record_chunks(tested.shape().degree()) as u128)?;
+    put(line, request_length(&tested, Target::Public) as u128)?;
+    put(line, request_length(&tested, Target::Keys) as u128)?;
+    put(line, request_length(&tested, Target::Score) as u128)?;
+    put(line, request_length(&tested, Target::Meta) as u128)?;
+    put(line, request_length(&tested, Target::Document) as u128)?;
+    put(line, reply_length(&tested, Target::Keys) as u128)?;
+    put(line, reply_length(&tested, Target::Score) as u128)?;
+    put(line, reply_length(&tested, Target::Meta) as u128)?;
+    put(line, reply_length(&tested, Target::Document) as u128)?;
+    Ok(())
+}
+
+/// The bytes of the ciphertext whose parts a case lists, and whether they are read and written again.
+fn put_written(alloc: Global, line: &mut String, case: Case) -> Result<(), BadCase> {
+    let bytes = write_ciphers(alloc, &[given(alloc, case)?])?;
+    put_bytes(alloc, line, bytes.as_slice())?;
+    if let Ok(ciphers) = read_ciphers(alloc, case.degree()?, 1, bytes.as_slice()) {
+        put_again(alloc, line, &ciphers, bytes.as_slice())?;
+    }
+    Ok(())
+}
+
+fn put_again(
+    alloc: Global,
+    line: &mut String,
+    ciphers: &[Cipher],
+    bytes: &[u8],
+) -> Result<(), AllocError> {
+    if write_ciphers(alloc, ciphers)?.as_slice() == bytes {
+        put_text(line, "again")?;
+    }
+    Ok(())
+}
+
+/// Whether bytes are so many ciphertexts, or why they are not.
+fn put_reading(alloc: Global, line: &mut String, case: Case) -> Result<(), BadCase> {
+    let bytes = put_in(alloc, case)?;
+    let answer = read_ciphers(alloc, case.degree()?, case.number("count"), &bytes);
+    match answer {
+        Ok(_) => put_text(line, "good")?,
+        Err(WireFault::Length { wanted, found }) => write!(line, " length {wanted} {found}")?,
+        Err(WireFault::Range { place }) => write!(line, " range {place}")?,
+        Err(_) => return Err(BadCase::OutOfMemory),
+    }
+    Ok(())
+}
+
+/// Zeros, of the length that a case says, with the bytes put in that it lists: each as a place, a
+/// stroke and the bytes in hexadecimal.
+fn put_in(alloc: Global, case: Case) -> Result<Vec<u8>, BadCase> {
+    let mut bytes = vec![in alloc; 0; case.number("length") as usize]?;
+    for change in case.text("put").split_ascii_whitespace() {
+        let Some((at, what)) = change.split_once('/') else {
+            return Err(BadCase::Unfit);
+        };
+        let Ok(what) = hex::decode(alloc, what) else {
+            return Err(BadCase::Unfit);
+        };
+        overwrite(&mut bytes, at.parse().unwrap_or(0), &what);
+    }
+    Ok(bytes)
+}
+
+fn overwrite(bytes: &mut [u8], at: usize, what: &[u8]) {
+    for (place, byte) in bytes.iter_mut().skip(at).zip(what.iter()) {
+        *place = *byte;
+    }
+}
