@@ -1,24 +1,21 @@
-//! Libraries, their files and their public bytes.
+//! Public bytes of libraries, and faults of these and of their files. The files themselves stand in the
+//! black-box cases.
 
 use crate::cases::{BadCase, Case};
-use crate::lines::{put, put_bytes, put_digest, put_numbers, put_text};
-use crate::text::put_terms;
+use crate::lines::{put, put_bytes, put_text};
 use crate::tfidf::corpus;
 use co_library::{Library, LibraryFault, Settings, publish};
 use co_link::Bytes;
-use co_noise::Shape;
-use co_text::Terms;
 use co_wire::{WireFault, read_public, read_shape_fields, write_public};
 use std::alloc::{AllocError, Global};
 
 pub fn line(alloc: Global, call: &str, case: Case) -> Result<String, BadCase> {
     let mut line = String::new(alloc);
+    let library = library(alloc, case)?;
     match call {
-        "publish" => put_library(alloc, &mut line, case)?,
-        "refuse" => put_refusal(alloc, &mut line, case)?,
-        "parts" => put_parts(alloc, &mut line, case)?,
-        "file" => put_file_faults(alloc, &mut line, case)?,
-        "public" => put_public_faults(alloc, &mut line, case)?,
+        "publish" => put_public(alloc, &mut line, &library)?,
+        "file" => put_file_faults(alloc, &mut line, &library, case.text("changes"))?,
+        "public" => put_public_faults(alloc, &mut line, &library, case.text("changes"))?,
         _ => return Err(BadCase::Unfit),
     }
     Ok(line)
@@ -46,55 +43,15 @@ fn public_bytes(alloc: Global, library: &Library) -> Result<Bytes, AllocError> {
     write_public(alloc, shape, library.terms())
 }
 
-fn put_shape(line: &mut String, shape: &Shape) -> Result<(), AllocError> {
-    let numbers = [
-        shape.degree(),
-        shape.documents(),
-        shape.terms(),
-        shape.hits(),
-        shape.salt(),
-        shape.rows(),
-        shape.bins(),
-        shape.chunks(),
-    ];
-    put_numbers(line, &numbers)
-}
-
-/// The shape, the length of the file and its digest, whether it is read and written again, and the
-/// public bytes.
-fn put_library(alloc: Global, line: &mut String, case: Case) -> Result<(), BadCase> {
-    let library = library(alloc, case)?;
-    put_shape(line, library.shape())?;
-    let file = library.write(alloc)?;
-    put_file(alloc, line, file.as_slice())?;
-    let public = public_bytes(alloc, &library)?;
-    put_public(alloc, line, public.as_slice())
-}
-
-fn put_file(alloc: Global, line: &mut String, file: &[u8]) -> Result<(), BadCase> {
-    put(line, file.len() as u128)?;
-    put_digest(alloc, line, file)?;
-    if written_again(alloc, file)?.as_slice() == file {
+/// The public bytes, how many of them are fields and terms, and whether what they are read as is
+/// written again.
+fn put_public(alloc: Global, line: &mut String, library: &Library) -> Result<(), BadCase> {
+    let public = public_bytes(alloc, library)?;
+    put_bytes(alloc, line, public.as_slice())?;
+    put(line, behind_fields(alloc, public.as_slice())? as u128)?;
+    if public_again(alloc, public.as_slice())?.as_slice() == public.as_slice() {
         put_text(line, "again")?;
     }
-    Ok(())
-}
-
-/// What is written of the library that a file is read as.
-fn written_again(alloc: Global, file: &[u8]) -> Result<Bytes, BadCase> {
-    match Library::read(alloc, file) {
-        Ok(library) => Ok(library.write(alloc)?),
-        Err(_) => return Err(BadCase::Unfit),
-    }
-}
-
-/// The public bytes, how many of them are fields and terms, and what they say.
-fn put_public(alloc: Global, line: &mut String, public: &[u8]) -> Result<(), BadCase> {
-    put_bytes(alloc, line, public)?;
-    put(line, behind_fields(alloc, public)? as u128)?;
-    let (shape, terms) = read_again(alloc, public)?;
-    put_shape(line, &shape)?;
-    put_terms(line, &terms)?;
     Ok(())
 }
 
@@ -109,34 +66,12 @@ fn behind_fields(alloc: Global, public: &[u8]) -> Result<u64, BadCase> {
     }
 }
 
-fn read_again(alloc: Global, public: &[u8]) -> Result<(Shape, Terms), BadCase> {
+/// What is written of the shape and the terms that public bytes are read as.
+fn public_again(alloc: Global, public: &[u8]) -> Result<Bytes, BadCase> {
     match read_public(alloc, public) {
-        Ok(found) => Ok(found),
+        Ok((shape, terms)) => Ok(write_public(alloc, &shape, &terms)?),
         Err(_) => return Err(BadCase::Unfit),
     }
-}
-
-fn put_refusal(alloc: Global, line: &mut String, case: Case) -> Result<(), BadCase> {
-    match publish(alloc, &corpus(alloc, case)?, &settings(case)) {
-        Ok(_) => put_text(line, "published")?,
-        Err(fault) => write!(line, " {fault:?}")?,
-    }
-    Ok(())
-}
-
-/// The weights, the record of a document, and the lengths of all records and of all bins.
-fn put_parts(alloc: Global, line: &mut String, case: Case) -> Result<(), BadCase> {
-    let library = library(alloc, case)?;
-    for (term, document, weight) in library.weights() {
-        put_numbers(line, &[*term, *document, *weight as u32])?;
-    }
-    let records = library.records();
-    let from = (case.number("document") as usize).saturating_mul(256);
-    let record = records.get(from..from.saturating_add(256)).unwrap_or(&[]);
-    put_bytes(alloc, line, record)?;
-    put(line, records.len() as u128)?;
-    put(line, library.bins().len() as u128)?;
-    Ok(())
 }
 
 /// The bytes with a change: a cut to some length, bytes at the end, or bytes put over an offset.
@@ -171,31 +106,47 @@ fn put_place(line: &mut String, place: Option<u64>) -> Result<(), AllocError> {
 }
 
 /// The place of the first fault of a library's file after each change.
-fn put_file_faults(alloc: Global, line: &mut String, case: Case) -> Result<(), BadCase> {
-    let file = library(alloc, case)?.write(alloc)?;
-    for change in case.text("changes").split_ascii_whitespace() {
+fn put_file_faults(
+    alloc: Global,
+    line: &mut String,
+    library: &Library,
+    changes: &str,
+) -> Result<(), BadCase> {
+    let file = library.write(alloc)?;
+    for change in changes.split_ascii_whitespace() {
         let bytes = changed(alloc, file.as_slice(), change)?;
-        let place = match Library::read(alloc, bytes.as_slice()) {
-            Err(LibraryFault::BadLibrary { place }) => Some(place),
-            Err(LibraryFault::OutOfMemory) => return Err(BadCase::OutOfMemory),
-            Ok(_) => None,
-        };
-        put_place(line, place)?;
+        put_place(line, file_fault(alloc, bytes.as_slice())?)?;
     }
     Ok(())
 }
 
+fn file_fault(alloc: Global, bytes: &[u8]) -> Result<Option<u64>, BadCase> {
+    match Library::read(alloc, bytes) {
+        Ok(_) => Ok(None),
+        Err(LibraryFault::BadLibrary { place }) => Ok(Some(place)),
+        Err(LibraryFault::OutOfMemory) => Err(BadCase::OutOfMemory),
+    }
+}
+
 /// The place of the first fault of its public bytes after each change.
-fn put_public_faults(alloc: Global, line: &mut String, case: Case) -> Result<(), BadCase> {
-    let public = public_bytes(alloc, &library(alloc, case)?)?;
-    for change in case.text("changes").split_ascii_whitespace() {
+fn put_public_faults(
+    alloc: Global,
+    line: &mut String,
+    library: &Library,
+    changes: &str,
+) -> Result<(), BadCase> {
+    let public = public_bytes(alloc, library)?;
+    for change in changes.split_ascii_whitespace() {
         let bytes = changed(alloc, public.as_slice(), change)?;
-        let place = match read_public(alloc, bytes.as_slice()) {
-            Err(WireFault::Public { place }) => Some(place),
-            Err(_) => return Err(BadCase::Unfit),
-            Ok(_) => None,
-        };
-        put_place(line, place)?;
+        put_place(line, public_fault(alloc, bytes.as_slice())?)?;
     }
     Ok(())
+}
+
+fn public_fault(alloc: Global, bytes: &[u8]) -> Result<Option<u64>, BadCase> {
+    match read_public(alloc, bytes) {
+        Ok(_) => Ok(None),
+        Err(WireFault::Public { place }) => Ok(Some(place)),
+        Err(_) => Err(BadCase::OutOfMemory),
+    }
 }

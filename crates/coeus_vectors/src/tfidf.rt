@@ -1,11 +1,11 @@
 //! Weights and the index.
 
 use crate::cases::{BadCase, Case};
-use crate::lines::{put, put_numbers, put_text};
+use crate::lines::{put, put_text};
 use crate::text::put_terms;
 use co_corpus::{Corpus, read_corpus};
 use co_tfidf::{build_index, quarter_bits};
-use std::alloc::Global;
+use std::alloc::{AllocError, Global};
 
 pub fn line(alloc: Global, call: &str, case: Case) -> Result<String, BadCase> {
     let mut line = String::new(alloc);
@@ -35,13 +35,19 @@ pub fn corpus(alloc: Global, case: Case) -> Result<Corpus, BadCase> {
     }
 }
 
-/// The vocabulary, and then term, document and weight of each entry.
+/// The vocabulary, and then its weights.
 fn put_index(alloc: Global, line: &mut String, case: Case) -> Result<(), BadCase> {
     let index = build_index(alloc, &corpus(alloc, case)?, case.number("terms"))?;
     put_terms(line, &index.terms)?;
     put_text(line, "weights")?;
-    for (term, document, weight) in index.weights.as_slice() {
-        put_numbers(line, &[*term, *document, *weight as u32])?;
+    put_weights(line, index.weights.as_slice())?;
+    Ok(())
+}
+
+/// Term, document and weight of each entry.
+pub fn put_weights(line: &mut String, weights: &[(u32, u32, u16)]) -> Result<(), AllocError> {
+    for (term, document, weight) in weights {
+        write!(line, " {term} {document} {weight}")?;
     }
     Ok(())
 }
