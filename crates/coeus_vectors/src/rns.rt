@@ -46,8 +46,9 @@ fn joined(alloc: Global, case: Case) -> Result<Pair, BadCase> {
 /// The lowest digits of all coefficients, then the next ones.
 fn put_digits(alloc: Global, line: &mut String, case: Case) -> Result<(), BadCase> {
     let a = case.pair(alloc, "a")?;
-    let mut into = Pair::zero(alloc, degree_of(a.degree())?)?;
+    let degree = degree_of(a.degree())?;
     for index in 0..DIGIT_COUNT {
+        let mut into = Pair::zero(alloc, degree)?;
         a.digit(index, &mut into);
         put_pair(line, &into)?;
     }

@@ -60,7 +60,7 @@ impl<'a> Rng for Given<'a> {
     ghost stream = { stream_of (steps_u64_low next_of) };
 
     fn next_u32(&mut self) -> u32 {
-        self.next_word() as u32
+        (self.next_word() % 4_294_967_296) as u32
     }
 
     fn next_u64(&mut self) -> u64 {
