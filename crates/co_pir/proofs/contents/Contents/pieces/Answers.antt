@@ -5,7 +5,7 @@ use Rattle.std.proofs.lemmas.Grind.{div_ceil_times}
 use Rattle.std.proofs.Math.Nat.{pow-le-pow_right}
 use Rattle.co_math.specs.Coefficients.{IsDegree}
 use Rattle.co_pir.specs.Tables.{Table}
-use Rattle.co_pir.proofs.table.Rows.pieces.Goals as goal
+use Rattle.co_pir.proofs.contents.Contents.pieces.Goals as goal
 
 some_pieces : (rows p : ℕ) → 1 ≤ rows → rows ≤ p * 64 → 0 < p
 some_pieces rows p l u = omega arith

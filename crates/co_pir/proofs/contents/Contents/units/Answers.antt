@@ -3,7 +3,7 @@ use Rattle.std.proofs.Common.{◌≡◌, ℕ, ◌*◌, ◌≤◌, ap, ◌∙◌,
 use Rattle.co_pir.specs.Tables.{Table}
 use Rattle.co_pir.specs.Units.{pieces}
 use Rattle.co_pir.proofs.Answering.{units_fit}
-use Rattle.co_pir.proofs.table.Rows.units.Goals as goal
+use Rattle.co_pir.proofs.contents.Contents.units.Goals as goal
 
 pub returns-clause-value : goal.returns-clause-value
 returns-clause-value c = (λ t. c.self.inside.chunks * c.pieces.ensures.value t) ∙ ap (λ (t : Table). t.chunks * pieces c.args.self.now) c.self.view_is
