@@ -10,15 +10,24 @@
 //! Not here: what a weight, a record or a bin holds (co_library, co_pack), and how messages travel.
 #![tactic(auto)]
 
+mod bodies;
 mod cursor;
 mod fault;
 mod fields;
+mod key_bodies;
 pub mod laws;
+mod lengths;
 mod reading;
 mod writing;
 
+pub use bodies::{read_ciphers, write_ciphers};
 pub use cursor::Cursor;
 pub use fault::WireFault;
 pub use fields::{MOST_BYTES_IN_BINS, read_end, read_u16_within, read_u32_within, read_word};
+pub use key_bodies::{read_keys, write_keys};
+pub use lengths::{record_chunks, reply_length, request_length};
 pub use reading::{read_fields, read_public, read_shape_fields};
 pub use writing::{put_shape_fields, put_u32, write_public};
+
+#[cfg(test)]
+mod tests;
