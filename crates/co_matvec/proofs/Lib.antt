@@ -15,3 +15,4 @@ pub mod Partition
 pub mod Roots
 pub mod Counting
 pub mod Working
+pub mod Chained
