@@ -1,13 +1,16 @@
 -- The entries of a chain are all those of its diagonal.
-use Rattle.std.proofs.Common.{◌≡◌, ℕ, zero, suc, Bool, true, false, ◌+◌, ◌*◌, ◌-◌, ◌/◌, ◌%◌, ◌^◌, ◌<◌, ◌≤◌, ◌&&◌, ◌≢◌, refl, sym, ap, subst, ◌∙◌, ⊎_elim, arith, List, [], ◌∷◌, ◌++◌, length, get_or, set, drop, replicate, cond, eqb, eq-eqb, add-one, length-append}
-use Rattle.std.proofs.Math.Nat.{mod-lt, div-mul-le_self, mul-le-mul_right}
+use Rattle.std.proofs.Common.{◌≡◌, ℕ, zero, suc, Bool, true, false, ◌+◌, ◌*◌, ◌-◌, ◌/◌, ◌%◌, ◌^◌, ◌<◌, ◌≤◌, ◌&&◌, ◌≢◌, refl, sym, ap, subst, ◌∙◌, ⊎_elim, arith, List, [], ◌∷◌, ◌++◌, length, get_or, set, drop, replicate, cond, max, All, eqb, eq-eqb, add-one, length-append}
+use Rattle.std.proofs.Math.Nat.{mod-lt, div-mul-le_self, mul-le-mul_left, mul-le-mul_right}
 use Rattle.std.proofs.Math.Seq.{drop-cons, get_or-append_seam}
 use mathlib.Core.Bool.{true≢false}
 use Rattle.std.proofs.lemmas.Nat.{mod-mul-add}
+use Rattle.std.specs.Int.{div_ceil}
+use Rattle.std.proofs.lemmas.Grind.{div_ceil_times}
+use Rattle.co_noise.specs.Shapes.{keyword_blocks as keyword_blocks_of, document_blocks as document_blocks_of}
 use Rattle.std.proofs.lemmas.Bool.{cases_eq, cases_lt, eqb-true}
 use Rattle.std.proofs.lemmas.Bool.Decides.{nat_tests}
 use Rattle.std.proofs.lemmas.List.{length-set, get_or-set_other, get_or-set_same, get_or-replicate, length-replicate, get_or_append_left, get_or_default}
-use Rattle.co_matvec.specs.Weights.{WeightMatrix, keyword_blocks, diagonal_slot}
+use Rattle.co_matvec.specs.Weights.{WeightMatrix, keyword_blocks, document_blocks, diagonal_slot}
 use Rattle.co_matvec.specs.Diagonals.{on_diagonal, ArePut, AreDiagonalSlots}
 use Rattle.co_matvec.specs.Chains.{diagonal_number, entry_number, numbers_of_entries, entry_numbers, last_place, ChainLists, AreChains}
 use Rattle.co_matvec.proofs.Filling.{AreLeft, none_left, one_left, put_nothing, both_true, true_or_false, two_slots}
@@ -197,3 +200,68 @@ entry-below n documents terms blocks words term document rows d t l u =
     let half : 0 < h = omega arith in
     number-below blocks words h (document / n) (term / h) ((term % h + h - document % n % h) % h)
     (quotient-below document n blocks (omega arith)) (quotient-below term h words (omega arith)) (mod-lt (term % h + h - document % n % h) half)
+
+-- the steps of an entry's number are no greater than it
+module _ (n words term document numbers : ℕ) (rows : 1 < n) (l : entry_number n words term document < numbers) where
+  pub number-below-inner : document / n * words + term / (n / 2) < numbers
+  unfolding entry_number diagonal_number
+  number-below-inner =
+      let y = document / n * words + term / (n / 2) in
+      let half : 1 ≤ n / 2 = omega arith in
+      let more : y * 1 ≤ y * (n / 2) = mul-le-mul_left y half in
+      omega (arith, l, more)
+
+  pub number-below-outer : (document / n * words + term / (n / 2)) * (n / 2) < numbers
+  unfolding entry_number diagonal_number
+  number-below-outer = omega (arith, l)
+
+-- so are those of a diagonal's number, which is one of them
+module _ (w : WeightMatrix) (heads words half a k i : ℕ) (e : heads ≡ document_blocks w * (keyword_blocks w * (w.degree / 2))) (f : words ≡ keyword_blocks w) (g : half ≡ w.degree / 2)
+    (l : a < document_blocks w) (u : k < keyword_blocks w) (v : i < w.degree / 2) where
+  pub number-is : (a * words + k) * half + i ≡ diagonal_number (keyword_blocks w) (w.degree / 2) a k i
+  unfolding diagonal_number
+  number-is t = (a * f t + k) * g t + i
+
+  pub number-fits : (a * words + k) * half + i < heads
+  number-fits = omega (arith, number-is, e, number-below (document_blocks w) (keyword_blocks w) (w.degree / 2) a k i l u v)
+
+  pub number-fits-inner : a * words + k < heads
+  number-fits-inner =
+      let some : 1 ≤ half = omega (arith, g, v) in
+      let more : (a * words + k) * 1 ≤ (a * words + k) * half = mul-le-mul_left (a * words + k) some in
+      omega (arith, number-fits, more)
+
+-- all blocks have all documents, and all terms
+blocks-enough : (w : WeightMatrix) → 0 < w.degree → w.documents ≤ document_blocks w * w.degree
+unfolding document_blocks document_blocks_of
+blocks-enough w z = (div_ceil_times w.documents w.degree z).0
+
+words-enough : (w : WeightMatrix) → 0 < w.degree / 2 → w.terms ≤ keyword_blocks w * (w.degree / 2)
+unfolding keyword_blocks keyword_blocks_of
+words-enough w z =
+    let some : div_ceil w.terms (w.degree / 2) ≤ max 1 (div_ceil w.terms (w.degree / 2)) = omega arith in
+    let enough = (div_ceil_times w.terms (w.degree / 2) z).0 in
+    let more = mul-le-mul_right (w.degree / 2) some in
+    omega (arith, enough, more)
+
+pub entries-below : (w : WeightMatrix) (n words numbers : ℕ) (es : List (ℕ × ℕ × ℕ)) → 1 < w.degree → n ≡ w.degree → words ≡ keyword_blocks w → numbers ≡ document_blocks w * (keyword_blocks w * (w.degree / 2))
+    → All (λ e. (e.0 < w.terms) × (e.1 < w.documents)) es → All (λ e. entry_number n words e.0 e.1 < numbers) es
+entries-below w n words numbers es rows e f g h i d l =
+    let r = h i d l in
+    let half : 0 < w.degree / 2 = omega arith in
+    let low = entry-below w.degree w.documents w.terms (document_blocks w) (keyword_blocks w) (get_or es i d).0 (get_or es i d).1 rows (blocks-enough w (omega arith)) (words-enough w half) r.0 r.1 in
+    subst (λ (x : ℕ). entry_number n words (get_or es i d).0 (get_or es i d).1 < x) (sym g)
+    (subst (λ (x : ℕ). entry_number x words (get_or es i d).0 (get_or es i d).1 < document_blocks w * (keyword_blocks w * (w.degree / 2))) (sym e)
+    (subst (λ (x : ℕ). entry_number w.degree x (get_or es i d).0 (get_or es i d).1 < document_blocks w * (keyword_blocks w * (w.degree / 2))) (sym f) low))
+
+pub chains-kept : (w : WeightMatrix) (n words numbers : ℕ) (es : List (ℕ × ℕ × ℕ)) (c : ChainLists) → n ≡ w.degree → words ≡ keyword_blocks w → numbers ≡ document_blocks w * (keyword_blocks w * (w.degree / 2)) → es ≡ w.entries
+    → AreChains (numbers_of_entries n words es) numbers (length es) c → AreChains (entry_numbers w) (document_blocks w * (keyword_blocks w * (w.degree / 2))) (length w.entries) c
+chains-kept w n words numbers es c e f g h a =
+    subst (λ (xs : List (ℕ × ℕ × ℕ)). AreChains (numbers_of_entries w.degree (keyword_blocks w) xs) (document_blocks w * (keyword_blocks w * (w.degree / 2))) (length xs) c) h
+    (subst (λ (x : ℕ). AreChains (numbers_of_entries w.degree (keyword_blocks w) es) x (length es) c) g
+    (subst (λ (x : ℕ). AreChains (numbers_of_entries w.degree x es) numbers (length es) c) f
+    (subst (λ (x : ℕ). AreChains (numbers_of_entries x words es) numbers (length es) c) e a)))
+
+pub some-words : (w : WeightMatrix) → 0 < keyword_blocks w
+unfolding keyword_blocks keyword_blocks_of
+some-words w = omega arith

@@ -9,7 +9,7 @@ pub mod Only
 pub mod Lawful
 pub mod Adding
 pub mod Existing
-pub mod Rotations
+pub mod Reaching
 pub mod Walking
 pub mod Partition
 pub mod Roots

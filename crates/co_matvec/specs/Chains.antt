@@ -20,7 +20,7 @@ abbrev pub entry_numbers : WeightMatrix → ℕ → ℕ
 entry_numbers w = numbers_of_entries w.degree (keyword_blocks w) w.entries
 
 -- of the first count places the last with a number, as a place from 1; 0 where there is none
-pub last_place : (ℕ → ℕ) → ℕ → ℕ → ℕ
+abbrev pub last_place : (ℕ → ℕ) → ℕ → ℕ → ℕ
 last_place number wanted zero = 0
 last_place number wanted (suc place) = if number place == wanted then suc place else last_place number wanted place
 

@@ -58,6 +58,13 @@ impl Chains {
         Ok(Chains { heads, links })
     }
 
+    /// How many diagonals there are.
+    pub(crate) fn numbers(&self) -> usize
+        ensures { result ≡ length self.now.heads }
+    {
+        self.heads.len()
+    }
+
     /// The last entry on a diagonal.
     pub(crate) fn last(&self, number: usize) -> usize
         requires { number < length self.now.heads }
