@@ -9,7 +9,7 @@ use Rattle.co_bucket.specs.Lists.{bucket_count}
 use Rattle.co_bfv.specs.Ciphertexts.{Ciphertext}
 use Rattle.co_switch.specs.Keys.{Keys}
 use Rattle.co_wire.specs.Public.{public_bytes}
-use Rattle.co_wire.specs.Bodies.{AreKeysFor, SpellsCiphers, SpellsKeys, ciphers_bytes, IsFirstOutOfRange}
+use Rattle.co_wire.specs.Bodies.{SpellsCiphers, SpellsKeys, ciphers_bytes, IsFirstOutOfRange}
 use Rattle.co_wire.specs.Lengths.{request_size}
 use Rattle.co_library.specs.Libraries.{Parts}
 use Rattle.co_matvec.specs.Replies.{AreScoreReplies}
@@ -86,11 +86,6 @@ IsAnswer l held r (Done reply) = IsDone l held r.target r.body reply
 IsAnswer l held r OutOfMemory = Unit {0}
 
 -- ---- keys
-
--- keys that are held were read for the shape
-abbrev pub AreKept : Numbers → Option Keys → Type 0
-AreKept s None = Unit {0}
-AreKept s (Some keys) = AreKeysFor s keys
 
 -- the keys that are held after a request was done
 abbrev pub HoldsDone : Numbers → Option Keys → Target → List ℕ → Option Keys → Type 0

@@ -3,8 +3,9 @@
 //! Over honest exchanges a client that asks as planned reads the plain answer; and a session has one
 //! answer to a request.
 
-ghost use Rattle.std.specs.Prelude.{◌≡◌, ◌≢◌, ◌≤◌, ◌<◌, ◌*◌, [], ◌∷◌, ℕ, ℤ, List, length, slice_get, Option, Some, true};
-ghost use Rattle.co_bucket.specs.Lists.{bucket_count, may_stand};
+ghost use Rattle.std.specs.Prelude.{◌≡◌, ◌≢◌, ◌≤◌, ◌<◌, ◌*◌, [], ◌∷◌, ℕ, ℤ, List, length, slice_get, Option, Some};
+ghost use Rattle.std.specs.List.{Contains};
+ghost use Rattle.co_bucket.specs.Lists.{bucket_count, candidates_of};
 ghost use Rattle.co_bucket.specs.Bytes.{record_chunks};
 ghost use Rattle.co_math.specs.Coefficients.{AreBelow, signed_coefficients};
 ghost use Rattle.co_noise.specs.Shapes.{keyword_blocks, document_blocks};
@@ -34,7 +35,7 @@ ghost use Rattle.co_library.specs.Refusals.{IsBuilt};
 ghost use Rattle.co_rounds.specs.declared.answer.Answer.{Answer};
 ghost use Rattle.co_rounds.specs.declared.answer.Answer.TheVariants.{OutOfMemory};
 ghost use Rattle.co_rounds.specs.Serving.{weights_of, gathered, bucket_table, bin_table};
-ghost use Rattle.co_rounds.specs.Answers.{IsAnswer, AreKept, reply_with};
+ghost use Rattle.co_rounds.specs.Answers.{IsAnswer, reply_with};
 ghost use Rattle.co_rounds.specs.Honest.{IsHonest};
 ghost use Rattle.co_rounds.specs.Scoring.{AskScores, scores_read};
 ghost use Rattle.co_rounds.specs.Recording.{IsLibraryFor, ShowsDocument, CanBeOpened, AsksFor, bytes_of, bucket_replies};
@@ -61,7 +62,7 @@ pub fn tables_are_whole()
 
 /// A request has one answer under the keys that are held, but for want of memory.
 pub fn one_answer()
-    ensures { (l : Parts) → IsLibrary l → (held : Option Keys) → AreKept l.shape held → (r : Request) (a b : Answer) → a ≢ OutOfMemory → b ≢ OutOfMemory
+    ensures { (l : Parts) → IsLibrary l → (held : Option Keys) (r : Request) (a b : Answer) → a ≢ OutOfMemory → b ≢ OutOfMemory
         → IsAnswer l held r a → IsAnswer l held r b → a ≡ b }
 {}
 
@@ -96,7 +97,7 @@ pub fn score_round_is_plain()
 pub fn documents_are_shown()
     ensures { (documents : List Document) (settings : Settings) (l : Parts) → IsLibraryFor documents settings l
         → (bucket number : ℕ) (document : Document) → bucket < bucket_count l.shape.hits → slice_get documents number ≡ Some document
-        → may_stand l.shape.salt (bucket_count l.shape.hits) bucket number ≡ true
+        → Contains (candidates_of l.shape.salt (bucket_count l.shape.hits) number) bucket
         → ShowsDocument l bucket number document }
 {}
 
