@@ -130,7 +130,9 @@ module _ (l : Parts) (library : IsLibrary l) (room : HasRoom l.shape) where
 -- the values of one of some numbers, among those of all
 part-at : {A : Type 0} (f : ℕ → List A) (size : ℕ) (xs : List ℕ) (i : ℕ) → ((x : ℕ) → length (f x) ≡ size) → i < length xs → take size (drop (i * size) (flat_map f xs)) ≡ f (get_or xs i 0)
 part-at f size [] i len l = absurd (omega arith)
-part-at {A = A} f size (x ∷ xs) zero len l = ap (take size) (flat_map-cons f x xs) ∙ take_at (f x) (flat_map f xs) size (len x)
+part-at {A = A} f size (x ∷ xs) zero len l =
+    let none : 0 * size ≡ 0 = omega arith in
+    ap (λ (k : ℕ). take size (drop k (flat_map f (x ∷ xs)))) none ∙ ap (take size) (flat_map-cons f x xs) ∙ take_at (f x) (flat_map f xs) size (len x)
 part-at {A = A} f size (x ∷ xs) (suc i) len l =
     let more : suc i * size ≡ size + i * size = omega arith in
     ap (λ (k : ℕ). take size (drop k (flat_map f (x ∷ xs)))) more ∙ ap (take size) (sym (drop-drop (i * size) size (flat_map f (x ∷ xs))))

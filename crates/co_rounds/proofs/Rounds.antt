@@ -1,11 +1,11 @@
 -- What a client reads from honest replies, round by round.
-use Rattle.std.proofs.Common.{◌≡◌, ℕ, zero, suc, ◌+◌, ◌*◌, ◌<◌, ◌≤◌, refl, sym, ap, subst, ◌∙◌, arith, ℤ, List, [], ◌∷◌, ◌++◌, length, get_or, All, Option, Some, None}
+use Rattle.std.proofs.Common.{◌≡◌, ℕ, zero, suc, ◌+◌, ◌*◌, ◌<◌, ◌≤◌, refl, sym, ap, subst, ◌∙◌, arith, ℤ, List, [], ◌∷◌, ◌++◌, length, get_or, All, Option, Some, None, Ok}
 use Rattle.std.specs.List.{flat_map, range_with_len}
 use Rattle.std.proofs.lemmas.List.{length-append}
 use Rattle.std.proofs.lemmas.List.Concat.{flat_map-cons}
 use Rattle.std.proofs.lemmas.List.FromFn.{length-range_with_len}
 use Rattle.std.proofs.lemmas.List.Elements.{All-from_get_or, All-append}
-use Rattle.co_link.specs.declared.messages.Target.TheVariants.{Score, Meta, Document as ForDocument}
+use Rattle.co_link.specs.declared.messages.Target.TheVariants.{Public, Score, Meta, Document as ForDocument}
 use Rattle.co_link.specs.declared.messages.Request.{Request}
 use Rattle.co_link.specs.declared.messages.Reply.{Reply}
 use Rattle.co_link.specs.Exchanges.{exchange_of}
@@ -33,13 +33,17 @@ use Rattle.co_corpus.specs.declared.documents.Document.{Document}
 use Rattle.co_text.specs.Terms.{distinct}
 use Rattle.co_text.specs.Numbers.{numbers_of as keywords_of}
 use Rattle.co_tfidf.specs.Scores.{scores}
+use Rattle.co_wire.specs.Reading.{headed}
+use Rattle.co_wire.specs.Public.{ArePublic, fields, public_word, public_bytes, public_of}
+use Rattle.co_wire.proofs.Formats.{whole_again}
+use Rattle.co_wire.proofs.Public_format.{public_format}
 use Rattle.co_wire.specs.Bodies.{AreCiphers, SpellsCiphers, SpellsKeys}
 use Rattle.co_wire.proofs.One_value.{one-list, one-key-set}
 use Rattle.co_library.specs.declared.settings.Settings.{Settings}
-use Rattle.co_library.specs.Libraries.{Parts}
+use Rattle.co_library.specs.Libraries.{Parts, IsLibrary}
 use Rattle.co_library.specs.Refusals.{IsBuilt}
 use Rattle.co_rounds.specs.Serving.{weights_of, gathered, bucket_table, bin_table}
-use Rattle.co_rounds.specs.Answers.{IsAnswer, IsDone, IsScored, IsGathered, IsFetched, reply_of, reply_with}
+use Rattle.co_rounds.specs.Answers.{Spells, IsAnswer, IsDone, IsScored, IsGathered, IsFetched, reply_of, reply_with}
 use Rattle.co_rounds.specs.Honest.{IsHonest, AreHeld}
 use Rattle.co_rounds.specs.Scoring.{AskScores, scores_read}
 use Rattle.co_rounds.specs.Recording.{CanBeOpened, AsksFor, bucket_replies}
@@ -122,7 +126,44 @@ done_only OutOfMemory body e = absurd (omega (arith, ap (λ (r : Reply). r.statu
 pub honest_done : (l : Parts) (held : Option (List ℕ)) (r : Request) (body : List ℕ) (h : IsHonest l held (exchange_of r (reply_with 200 body))) → IsDone l h.keys r.target r.body body
 honest_done l held r body h = subst (λ (a : Answer). IsAnswer l h.keys r a) (done_only h.answer body h.is) h.answers
 
--- which are those of the client
+-- ---- what such replies spell
+
+written_back : (s : Numbers) (ts : List (List ℕ)) → ArePublic s ts → public_of (public_bytes s ts) ≡ Ok (s, ts)
+unfolding public_of
+written_back s ts good = whole_again (headed public_word fields) (λ (p : Numbers × List (List ℕ)). public_bytes p.0 p.1) (λ p. ArePublic p.0 p.1) public_format (s, ts) good
+
+pub public_told : (l : Parts) → IsLibrary l → (held : Option (List ℕ)) (asked reply : List ℕ) → IsHonest l held (exchange_of (record { target = Public; body = asked }) (reply_with 200 reply)) → public_of reply ≡ Ok (l.shape, l.terms)
+public_told l library held asked reply h =
+    let done : (asked ≡ []) × (reply ≡ public_bytes l.shape l.terms) = honest_done l held (record { target = Public; body = asked }) reply h in
+    ap public_of done.1 ∙ written_back l.shape l.terms library.published
+
+score_spelled : (l : Parts) (held : Option Keys) (asked reply : List ℕ) → IsDegree l.shape.degree → IsDone l held Score asked reply → Spells l.shape.degree (document_blocks_of l.shape) reply
+score_spelled l None asked reply d h = absurd h
+score_spelled l (Some keys) asked reply d h = record { ciphers = h.scores; spelled = record { ciphers = scores-ciphers l keys h.queries h.scores d h.scored; spelled = h.is } }
+
+records_spelled : (l : Parts) (held : Option Keys) (asked reply : List ℕ) → IsDegree l.shape.degree → IsDone l held Meta asked reply → Spells l.shape.degree (bucket_count l.shape.hits * record_chunks l.shape.degree) reply
+records_spelled l None asked reply d h = absurd h
+records_spelled l (Some keys) asked reply d h = record { ciphers = gathered l keys h.queries; spelled = record { ciphers = gathered-ciphers l keys h.queries d; spelled = h.is } }
+
+document_spelled : (l : Parts) (held : Option Keys) (asked reply : List ℕ) → IsDegree l.shape.degree → IsDone l held ForDocument asked reply → Spells l.shape.degree l.shape.chunks reply
+document_spelled l None asked reply d h = absurd h
+document_spelled l (Some keys) asked reply d h = record { ciphers = retrieved (bin_table l) keys h.query; spelled = record { ciphers = retrieved-ciphers (bin_table l) keys h.query d; spelled = h.is } }
+
+module _ (l : Parts) (library : IsLibrary l) (held : Option (List ℕ)) (asked reply : List ℕ) where
+  degree_of : IsDegree l.shape.degree
+  degree_of = (ranges l.shape library.published.good.ranges).degree
+
+  pub score_reply_spelled : IsHonest l held (exchange_of (record { target = Score; body = asked }) (reply_with 200 reply)) → Spells l.shape.degree (document_blocks_of l.shape) reply
+  score_reply_spelled h = score_spelled l h.keys asked reply degree_of (honest_done l held (record { target = Score; body = asked }) reply h)
+
+  pub records_reply_spelled : IsHonest l held (exchange_of (record { target = Meta; body = asked }) (reply_with 200 reply)) → Spells l.shape.degree (bucket_count l.shape.hits * record_chunks l.shape.degree) reply
+  records_reply_spelled h = records_spelled l h.keys asked reply degree_of (honest_done l held (record { target = Meta; body = asked }) reply h)
+
+  pub document_reply_spelled : IsHonest l held (exchange_of (record { target = ForDocument; body = asked }) (reply_with 200 reply)) → Spells l.shape.degree l.shape.chunks reply
+  document_reply_spelled h = document_spelled l h.keys asked reply degree_of (honest_done l held (record { target = ForDocument; body = asked }) reply h)
+
+-- ---- the keys that are held are those of the client
+
 pub held_are : (s : Numbers) (keys_body : List ℕ) (keys : Keys) (held : Option Keys) → SpellsKeys s keys keys_body → AreHeld s (Some keys_body) held → held ≡ Some keys
 held_are s keys_body keys None spelled h = absurd h
 held_are s keys_body keys (Some other) spelled h = ap Some (one-key-set s other keys keys_body h spelled)

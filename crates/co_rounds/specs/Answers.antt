@@ -18,6 +18,29 @@ use Rattle.co_rounds.specs.Serving.{weights_of, gathered, bin_table}
 use Rattle.co_rounds.specs.declared.answer.Answer.{Answer}
 use Rattle.co_rounds.specs.declared.answer.Answer.TheVariants.{Done, Length, NoKeys, Range, OutOfMemory}
 
+-- ---- bodies of requests
+
+-- the body spells so many ciphertexts of degree n
+pub record Spells (n count : ℕ) (body : List ℕ) : Type 0 where
+  pub ciphers : List Ciphertext
+  pub spelled : SpellsCiphers n count ciphers body
+
+-- the body hands over keys for the shape
+pub record HandsOver (s : Numbers) (body : List ℕ) : Type 0 where
+  pub keys : Keys
+  pub spelled : SpellsKeys s keys body
+
+-- a body that is answered: it spells what its target wants, and where keys are wanted some are held
+abbrev pub IsGoodRequest : Numbers → Option Keys → Target → List ℕ → Type 0
+IsGoodRequest s held Public body = body ≡ []
+IsGoodRequest s held ForKeys body = HandsOver s body
+IsGoodRequest s None Score body = ⊥
+IsGoodRequest s (Some keys) Score body = Spells s.degree (keyword_blocks s) body
+IsGoodRequest s None Meta body = ⊥
+IsGoodRequest s (Some keys) Meta body = Spells s.degree (bucket_count s.hits) body
+IsGoodRequest s None Document body = ⊥
+IsGoodRequest s (Some keys) Document body = Spells s.degree 1 body
+
 -- ---- bodies of replies
 
 -- the body spells a query for each block of terms, and the reply the score replies to them
@@ -39,11 +62,6 @@ pub record IsFetched (l : Parts) (keys : Keys) (body reply : List ℕ) : Type 0 
   pub query : Ciphertext
   pub asked : SpellsCiphers l.shape.degree 1 (query ∷ []) body
   pub is : reply ≡ ciphers_bytes (retrieved (bin_table l) keys query)
-
--- the body hands over keys for the shape
-pub record HandsOver (s : Numbers) (body : List ℕ) : Type 0 where
-  pub keys : Keys
-  pub spelled : SpellsKeys s keys body
 
 -- the reply to a good body, under the keys that are held
 abbrev pub IsDone : Parts → Option Keys → Target → List ℕ → List ℕ → Type 0

@@ -3,7 +3,7 @@
 //! Over honest exchanges a client that asks as planned reads the plain answer; and a session has one
 //! answer to a request.
 
-ghost use Rattle.std.specs.Prelude.{◌≡◌, ◌≢◌, ◌≤◌, ◌<◌, ◌*◌, [], ◌∷◌, ℕ, ℤ, List, length, slice_get, Option, Some};
+ghost use Rattle.std.specs.Prelude.{◌≡◌, ◌≢◌, ◌≤◌, ◌<◌, ◌*◌, ◌⊎◌, [], ◌∷◌, ℕ, ℤ, List, length, slice_get, Option, Some, Ok};
 ghost use Rattle.std.specs.List.{Contains};
 ghost use Rattle.co_bucket.specs.Lists.{bucket_count, candidates_of};
 ghost use Rattle.co_bucket.specs.Bytes.{record_chunks};
@@ -26,8 +26,10 @@ ghost use Rattle.co_text.specs.Numbers.{numbers_of as keywords_of};
 ghost use Rattle.co_tfidf.specs.Scores.{scores};
 ghost use Rattle.co_tfidf.specs.EntryScores.{weight_in};
 ghost use Rattle.co_wire.specs.Bodies.{AreKeysFor, AreCiphers, SpellsCiphers, SpellsKeys};
-ghost use Rattle.co_link.specs.declared.messages.Target.TheVariants.{Score, Meta, Document as ForDocument};
+ghost use Rattle.co_wire.specs.Public.{public_of};
+ghost use Rattle.co_link.specs.declared.messages.Target.TheVariants.{Public, Score, Meta, Document as ForDocument};
 ghost use Rattle.co_link.specs.declared.messages.Request.{Request};
+ghost use Rattle.co_link.specs.declared.messages.Exchange.{Exchange};
 ghost use Rattle.co_link.specs.Exchanges.{exchange_of};
 ghost use Rattle.co_library.specs.declared.settings.Settings.{Settings};
 ghost use Rattle.co_library.specs.Libraries.{Parts, IsLibrary};
@@ -35,8 +37,8 @@ ghost use Rattle.co_library.specs.Refusals.{IsBuilt};
 ghost use Rattle.co_rounds.specs.declared.answer.Answer.{Answer};
 ghost use Rattle.co_rounds.specs.declared.answer.Answer.TheVariants.{OutOfMemory};
 ghost use Rattle.co_rounds.specs.Serving.{weights_of, gathered, bucket_table, bin_table};
-ghost use Rattle.co_rounds.specs.Answers.{IsAnswer, reply_with};
-ghost use Rattle.co_rounds.specs.Honest.{IsHonest};
+ghost use Rattle.co_rounds.specs.Answers.{IsAnswer, IsGoodRequest, Spells, reply_with};
+ghost use Rattle.co_rounds.specs.Honest.{IsHonest, AreHeld};
 ghost use Rattle.co_rounds.specs.Scoring.{AskScores, scores_read};
 ghost use Rattle.co_rounds.specs.Recording.{IsLibraryFor, ShowsDocument, CanBeOpened, AsksFor, bytes_of, bucket_replies};
 
@@ -64,6 +66,28 @@ pub fn tables_are_whole()
 pub fn one_answer()
     ensures { (l : Parts) → IsLibrary l → (held : Option Keys) (r : Request) (a b : Answer) → a ≢ OutOfMemory → b ≢ OutOfMemory
         → IsAnswer l held r a → IsAnswer l held r b → a ≡ b }
+{}
+
+/// Over an honest exchange a good request is answered 200, or 503 for want of memory.
+pub fn good_requests_are_answered()
+    ensures { (l : Parts) (held : Option (List ℕ)) (e : Exchange) → IsHonest l held e → (keys : Option Keys) → AreHeld l.shape held keys
+        → IsGoodRequest l.shape keys e.request.target e.request.body → (e.reply.status ≡ 200) ⊎ (e.reply.status ≡ 503) }
+{}
+
+/// Over an honest exchange the public bytes read as the library's numbers and terms.
+pub fn public_round_tells()
+    ensures { (l : Parts) → IsLibrary l → (held : Option (List ℕ)) (asked reply : List ℕ) → IsHonest l held (exchange_of (record { target = Public; body = asked }) (reply_with 200 reply))
+        → public_of reply ≡ Ok (l.shape, l.terms) }
+{}
+
+/// Honest replies of status 200 spell as many ciphertexts as a client wants.
+pub fn replies_are_spelled()
+    ensures score { (l : Parts) → IsLibrary l → (held : Option (List ℕ)) (asked reply : List ℕ) → IsHonest l held (exchange_of (record { target = Score; body = asked }) (reply_with 200 reply))
+        → Spells l.shape.degree (document_blocks l.shape) reply }
+    ensures records { (l : Parts) → IsLibrary l → (held : Option (List ℕ)) (asked reply : List ℕ) → IsHonest l held (exchange_of (record { target = Meta; body = asked }) (reply_with 200 reply))
+        → Spells l.shape.degree (bucket_count l.shape.hits * record_chunks l.shape.degree) reply }
+    ensures document { (l : Parts) → IsLibrary l → (held : Option (List ℕ)) (asked reply : List ℕ) → IsHonest l held (exchange_of (record { target = ForDocument; body = asked }) (reply_with 200 reply))
+        → Spells l.shape.degree l.shape.chunks reply }
 {}
 
 /// What a client reads from score replies are the scores of the documents, where the replies are
