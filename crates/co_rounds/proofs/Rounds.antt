@@ -63,7 +63,7 @@ pub scores-ciphers : (l : Parts) (keys : Keys) (queries replies : List Ciphertex
 unfolding document_blocks document_blocks_of
 scores-ciphers l keys queries replies d h =
     let whole : (i : ℕ) → i < length replies → IsOfDegree l.shape.degree (ciphertext_at replies i) =
-        λ i u. subst (IsOfDegree l.shape.degree) (sym (h.each i u).is) (sum-whole (weights_of l) keys queries (h.each i u).diagonal d) in
+    λ i u. subst (IsOfDegree l.shape.degree) (sym (h.each i u).is) (sum-whole (weights_of l) keys queries (h.each i u).diagonal d) in
     record {
       count_is = h.count;
       ciphers = All-from_get_or IsCiphertext replies no_ciphertext (λ i u. (whole i u).cipher);
