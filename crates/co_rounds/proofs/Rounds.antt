@@ -1,5 +1,5 @@
 -- What a client reads from honest replies, round by round.
-use Rattle.std.proofs.Common.{◌≡◌, ℕ, zero, suc, ◌+◌, ◌*◌, ◌<◌, ◌≤◌, refl, sym, ap, subst, ◌∙◌, arith, ℤ, List, [], ◌∷◌, ◌++◌, length, get_or, All, Option, Some, None, Ok}
+use Rattle.std.proofs.Common.{◌≡◌, ℕ, suc, ◌+◌, ◌*◌, ◌<◌, ◌≤◌, refl, sym, ap, subst, ◌∙◌, arith, ℤ, List, [], ◌∷◌, ◌++◌, length, All, Option, Some, None, Ok}
 use Rattle.std.specs.List.{flat_map, range_with_len}
 use Rattle.std.proofs.lemmas.List.{length-append}
 use Rattle.std.proofs.lemmas.List.Concat.{flat_map-cons}
@@ -19,7 +19,7 @@ use Rattle.co_bucket.specs.Bytes.{record_chunks}
 use Rattle.co_slots.specs.Payloads.{IsPayload}
 use Rattle.co_bfv.specs.Secrets.{IsSecret}
 use Rattle.co_bfv.specs.Ciphertexts.{Ciphertext, IsCiphertext, ciphertext_degree}
-use Rattle.co_bfv.specs.Totals.{no_ciphertext, ciphertext_at, ciphertext_total, IsOfDegree}
+use Rattle.co_bfv.specs.Totals.{no_ciphertext, ciphertext_at, IsOfDegree}
 use Rattle.co_bfv.proofs.Totals.{ciphertext_total-IsOfDegree}
 use Rattle.co_switch.specs.Keys.{Keys, AreGoodKeys}
 use Rattle.co_matvec.specs.Weights.{WeightMatrix, keyword_blocks as keyword_blocks_in, document_blocks}
