@@ -1,5 +1,5 @@
 -- The entries of a chain are all those of its diagonal.
-use Rattle.std.proofs.Common.{◌≡◌, ℕ, zero, suc, Bool, true, false, ◌+◌, ◌*◌, ◌-◌, ◌/◌, ◌%◌, ◌^◌, ◌<◌, ◌≤◌, ◌&&◌, ◌≢◌, refl, sym, ap, subst, ◌∙◌, ⊎_elim, arith, List, [], ◌∷◌, ◌++◌, length, get_or, set, drop, replicate, cond, max, All, eqb, eq-eqb, add-one, length-append}
+use Rattle.std.proofs.Common.{◌≡◌, ℕ, zero, suc, Bool, true, false, ◌+◌, ◌*◌, ◌-◌, ◌/◌, ◌%◌, ◌<◌, ◌≤◌, ◌&&◌, ◌≢◌, refl, sym, ap, subst, ◌∙◌, ⊎_elim, arith, List, [], ◌∷◌, ◌++◌, length, get_or, set, drop, replicate, cond, max, All, eqb, eq-eqb, add-one, length-append}
 use Rattle.std.proofs.Math.Nat.{mod-lt, div-mul-le_self, mul-le-mul_left, mul-le-mul_right}
 use Rattle.std.proofs.Math.Seq.{drop-cons, get_or-append_seam}
 use mathlib.Core.Bool.{true≢false}

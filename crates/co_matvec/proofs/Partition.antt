@@ -1,10 +1,8 @@
 -- All units together are the score replies; the sums of two workers add up.
-use Rattle.std.proofs.Common.{◌≡◌, ℕ, ◌*◌, ◌/◌, ◌^◌, ◌<◌, sym, ap, subst, ◌∙◌, arith, List, [], ◌++◌, length, All}
+use Rattle.std.proofs.Common.{◌≡◌, ℕ, ◌^◌, ◌<◌, sym, ap, subst, ◌∙◌, arith, List, [], ◌++◌, length, All}
 use Rattle.std.proofs.lemmas.List.Elements.{All-from_get_or}
-use Rattle.co_math.specs.Coefficients.{IsDegree}
-use Rattle.co_bfv.specs.Ciphertexts.{Ciphertext, ciphertext_degree, ciphertext_sum, zero_ciphertext, plain_product}
-use Rattle.co_bfv.specs.Totals.{no_ciphertext, ciphertext_at, IsOfDegree, ciphertext_total}
-use Rattle.co_bfv.proofs.Totals.{ciphertext_sum-degree, ciphertext_sum-IsOfDegree, ciphertext_total-zero, ciphertext_total-degree, ciphertext_total-IsOfDegree}
+use Rattle.co_bfv.specs.Ciphertexts.{Ciphertext, plain_product}
+use Rattle.co_bfv.specs.Totals.{ciphertext_total}
 use Rattle.co_switch.specs.Keys.{Keys, keys_degree}
 use Rattle.co_rot.specs.Subtrees.{crown_bits, subtree_bits}
 use Rattle.co_crew.specs.Crew.{IsEach}

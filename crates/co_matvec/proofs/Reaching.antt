@@ -3,9 +3,8 @@ use Rattle.std.proofs.Common.{◌≡◌, ℕ, ◌+◌, ◌<◌, ◌≤◌, refl,
 use Rattle.std.proofs.lemmas.Bool.{cases_eq, cases_lt}
 use Rattle.std.proofs.lemmas.List.{length-set, get_or_append_left, get_or_default, get_or-set_other, get_or-set_same}
 use Rattle.std.proofs.Math.Seq.{get_or-append_seam}
-use Rattle.std.specs.Prelude.{All}
 use Rattle.co_bfv.specs.Ciphertexts.{Ciphertext, ciphertext_degree}
-use Rattle.co_bfv.specs.Totals.{no_ciphertext, ciphertext_at}
+use Rattle.co_bfv.specs.Totals.{no_ciphertext}
 use Rattle.co_spectra.specs.Sums.{CipherSums, IsCipherSumOf}
 use Rattle.co_matvec.specs.Sums.{no_sum, sum_at, AreTurnedBack}
 

@@ -1,11 +1,9 @@
 -- What a walk through a subtree adds to the replies.
-use Rattle.std.proofs.Common.{◌≡◌, ℕ, zero, suc, ◌+◌, ◌-◌, ◌*◌, ◌/◌, ◌%◌, ◌^◌, ◌<◌, ◌≤◌, refl, sym, ap, subst, ◌∙◌, ⊎_elim, arith, List, [], ◌∷◌, ◌++◌, length, get_or, All}
-use Rattle.std.proofs.lemmas.Bool.{cases_lt}
+use Rattle.std.proofs.Common.{◌≡◌, ℕ, zero, suc, ◌+◌, ◌-◌, ◌*◌, ◌/◌, ◌%◌, ◌^◌, ◌<◌, ◌≤◌, refl, sym, ap, subst, ◌∙◌, arith, List, [], ◌∷◌, ◌++◌, length, All}
 use Rattle.std.proofs.lemmas.Nat.{pow-add, pow_pos}
 use Rattle.std.proofs.lemmas.List.Elements.{All-from_get_or}
-use Rattle.std.proofs.Math.Nat.{mul-le-mul_right, div-add-mod, mod-lt}
-use Rattle.co_math.specs.Coefficients.{IsDegree}
-use Rattle.co_bfv.specs.Ciphertexts.{Ciphertext, ciphertext_degree, ciphertext_sum, plain_product}
+use Rattle.std.proofs.Math.Nat.{mul-le-mul_right}
+use Rattle.co_bfv.specs.Ciphertexts.{Ciphertext, ciphertext_sum, plain_product}
 use Rattle.co_bfv.specs.Totals.{ciphertext_at, IsOfDegree, ciphertext_total}
 use Rattle.co_spectra.specs.Sums.{CipherSums, IsCipherSumOf}
 use Rattle.co_bfv.proofs.Totals.{ciphertext_total-zero, ciphertext_total-suc, ciphertext_total-degree, ciphertext_sum-zero, ciphertext_sum-assoc}
@@ -13,9 +11,9 @@ use Rattle.co_switch.specs.Keys.{Keys, keys_degree}
 use Rattle.co_rot.specs.Rotations.{rotation}
 use Rattle.co_rot.specs.Subtrees.{crown_bits, subtree_bits, HasVisited}
 use Rattle.co_crew.specs.Sums.{units_total}
-use Rattle.co_crew.proofs.Unit_sums.{IsPlaced, placed, units-snoc}
+use Rattle.co_crew.proofs.Unit_sums.{placed, units-snoc}
 use Rattle.co_matvec.specs.Weights.{WeightMatrix, keyword_blocks}
-use Rattle.co_matvec.specs.Replies.{IsDiagonal, AreDiagonals}
+use Rattle.co_matvec.specs.Replies.{IsDiagonal}
 use Rattle.co_matvec.specs.Sums.{no_sum, sum_at}
 use Rattle.co_matvec.specs.Units.{unit_count, unit_sum, AreUnitSums, AddsDiagonal, Summing, Visits}
 

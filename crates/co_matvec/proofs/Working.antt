@@ -1,7 +1,7 @@
 -- What a worker of a score holds.
-use Rattle.std.proofs.Common.{◌≡◌, ℕ, zero, suc, ◌+◌, ◌*◌, ◌/◌, ◌%◌, ◌^◌, ◌<◌, refl, sym, ap, subst, ◌∙◌, List, [], ◌∷◌, ◌++◌, length, get_or, All}
+use Rattle.std.proofs.Common.{◌≡◌, ℕ, zero, suc, ◌+◌, ◌*◌, ◌/◌, ◌%◌, ◌^◌, ◌<◌, sym, ap, subst, ◌∙◌, List, [], ◌∷◌, ◌++◌, length, get_or}
 use Rattle.std.proofs.lemmas.List.{get_or_default}
-use Rattle.co_bfv.specs.Ciphertexts.{Ciphertext, ciphertext_degree, zero_ciphertext}
+use Rattle.co_bfv.specs.Ciphertexts.{Ciphertext, ciphertext_degree}
 use Rattle.co_bfv.specs.Totals.{no_ciphertext, ciphertext_at}
 use Rattle.co_switch.specs.Keys.{keys_degree}
 use Rattle.co_rot.specs.Rotations.{rotation}

@@ -1,5 +1,5 @@
 -- Which entries are on a diagonal, and what is kept with weights.
-use Rattle.std.specs.Prelude.{ℕ, zero, suc, ◌≡◌, ◌<◌, ◌+◌, ◌-◌, ◌*◌, ◌/◌, ◌%◌, ◌==◌, if◌then◌else◌, List, length, slice_index, slice_index_or, All}
+use Rattle.std.specs.Prelude.{ℕ, zero, suc, ◌≡◌, ◌<◌, ◌+◌, ◌-◌, ◌*◌, ◌/◌, ◌%◌, ◌==◌, if◌then◌else◌, List, length, slice_index, slice_index_or}
 use Rattle.co_math.specs.Polynomials.{unit}
 use Rattle.co_rns.specs.Spectra.{PairValues, IsSpectrumOf}
 use Rattle.co_matvec.specs.Weights.{WeightMatrix, keyword_blocks, document_blocks}

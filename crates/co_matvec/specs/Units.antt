@@ -9,7 +9,7 @@ use Rattle.co_switch.specs.Keys.{Keys}
 use Rattle.co_rot.specs.Subtrees.{crown_bits, subtree_bits}
 use Rattle.co_crew.specs.Sums.{units_total}
 use Rattle.co_matvec.specs.Weights.{WeightMatrix, keyword_blocks, document_blocks}
-use Rattle.co_matvec.specs.Replies.{CanScore, IsDiagonal, AreDiagonals, turned_query}
+use Rattle.co_matvec.specs.Replies.{IsDiagonal, AreDiagonals, turned_query}
 
 -- how many units a score has
 abbrev pub unit_count : WeightMatrix → Keys → ℕ

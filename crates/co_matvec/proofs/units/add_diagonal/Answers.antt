@@ -1,5 +1,5 @@
 -- What was added is the product with the diagonal polynomial, or with zeros.
-use Rattle.std.proofs.Common.{◌∙◌, subst, replicate, MatchOption, Option}
+use Rattle.std.proofs.Common.{subst, replicate, MatchOption, Option}
 use Rattle.co_rns.specs.Spectra.{PairValues}
 use Rattle.co_matvec.specs.Diagonals.{AreDiagonalValues}
 use Rattle.co_matvec.specs.Replies.{IsDiagonal}

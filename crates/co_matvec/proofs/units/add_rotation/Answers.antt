@@ -1,5 +1,5 @@
 -- All sums have the rotation.
-use Rattle.std.proofs.Common.{◌≡◌, ℕ, ◌<◌, ◌∙◌, subst, sym, ap, arith, length, All}
+use Rattle.std.proofs.Common.{◌≡◌, ℕ, ◌<◌, ◌∙◌, subst, arith, length}
 use Rattle.std.proofs.lemmas.List.Elements.{All-set}
 use Rattle.co_spectra.specs.Sums.{CipherSums}
 use Rattle.co_spectra.specs.Values.{AreCipherValues}

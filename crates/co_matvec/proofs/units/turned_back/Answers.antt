@@ -1,5 +1,5 @@
 -- One ciphertext more.
-use Rattle.std.proofs.Common.{◌≡◌, ℕ, ◌<◌, ◌∙◌, ap, subst, sym, arith, length}
+use Rattle.std.proofs.Common.{◌≡◌, ℕ, ◌∙◌, ap, subst, arith, length}
 use Rattle.co_spectra.specs.Sums.{CipherSums}
 use Rattle.co_matvec.specs.Sums.{AreTurnedBack}
 use Rattle.co_matvec.proofs.Reaching.{none_turned, one_turned}

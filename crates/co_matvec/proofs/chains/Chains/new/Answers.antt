@@ -1,5 +1,5 @@
 -- Each entry is linked to the one before it.
-use Rattle.std.proofs.Common.{◌≡◌, ℕ, ◌≤◌, ◌<◌, refl, ◌∙◌, sym, ap, subst, arith, List, length, get_or}
+use Rattle.std.proofs.Common.{◌≡◌, ℕ, ◌<◌, refl, ◌∙◌, sym, ap, subst, arith, length, get_or}
 use Rattle.co_rot.proofs.Columns.{halved}
 use Rattle.co_matvec.specs.Chains.{AreChains, ChainLists, entry_number, numbers_of_entries}
 use Rattle.co_matvec.proofs.Chained.{no_chains, more_chains}

@@ -1,5 +1,5 @@
 -- Zeros are the sums of no unit.
-use Rattle.std.proofs.Common.{◌≡◌, ap, subst, sym, ◌∙◌, []}
+use Rattle.std.proofs.Common.{subst, []}
 use Rattle.co_matvec.specs.Units.{Scored, IsPartOf}
 use Rattle.co_matvec.proofs.Working.{none_part}
 use Rattle.co_matvec.proofs.scores.ScoringWorkSums.none.Goals as goal

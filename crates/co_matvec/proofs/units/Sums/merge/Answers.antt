@@ -3,7 +3,6 @@ use Rattle.std.proofs.Common.{◌≡◌, sym, ap, subst, ◌∙◌, List, length
 use Rattle.co_crew.proofs.Adding.{whole_kept}
 use Rattle.co_spectra.specs.Sums.{CipherSums}
 use Rattle.co_matvec.specs.Units.{AreHeld}
-use Rattle.co_matvec.specs.Sums.{AreAdded}
 use Rattle.co_matvec.proofs.Partition.{added-degrees}
 use Rattle.co_matvec.proofs.units.Sums.merge.Goals as goal
 

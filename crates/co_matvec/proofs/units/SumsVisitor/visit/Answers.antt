@@ -1,5 +1,5 @@
 -- The sums keep their degree, also after want of memory.
-use Rattle.std.proofs.Common.{◌≡◌, sym, ap, subst, ◌∙◌, List, length, All}
+use Rattle.std.proofs.Common.{sym, ap, subst, ◌∙◌, List, length}
 use Rattle.co_crew.proofs.Adding.{whole_kept}
 use Rattle.co_spectra.specs.Sums.{CipherSums}
 use Rattle.co_matvec.specs.Units.{AreHeld}

@@ -1,5 +1,5 @@
 -- The place of a diagonal among the heads.
-use Rattle.std.proofs.Common.{◌≡◌, ℕ, ◌*◌, ◌+◌, ◌/◌, ◌<◌, ◌∙◌, ap, sym, subst, arith, length, get_or}
+use Rattle.std.proofs.Common.{◌*◌, ◌+◌, ◌/◌, ◌<◌, ◌∙◌, ap, sym, subst, arith, length, get_or}
 use Rattle.co_matvec.specs.Chains.{last_place, entry_numbers, diagonal_number}
 use Rattle.co_matvec.specs.Weights.{WeightMatrix, document_blocks, keyword_blocks}
 use Rattle.co_matvec.proofs.Chained.{number-is, number-below, number-fits, number-fits-inner}

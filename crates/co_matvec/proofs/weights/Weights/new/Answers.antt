@@ -1,5 +1,5 @@
 -- What is kept is of the entries.
-use Rattle.std.proofs.Common.{◌≡◌, ℕ, ◌*◌, ◌/◌, ◌<◌, ◌∙◌, ap, sym, subst, arith, List, length, All}
+use Rattle.std.proofs.Common.{◌≡◌, ℕ, ◌*◌, ◌/◌, ◌<◌, ◌∙◌, ap, sym, subst, arith, List, All}
 use Rattle.co_math.specs.Polynomials.{unit}
 use Rattle.co_rns.specs.Spectra.{IsSpectrumOf}
 use Rattle.co_rot.proofs.Columns.{halved}
