@@ -93,15 +93,19 @@ fn put_placement(alloc: Global, line: &mut String, case: Case) -> Result<(), Bad
         return Err(BadCase::Unfit);
     }
     match place(alloc, &rows, buckets) {
-        Ok(placement) => put_placed(line, placement.as_slice())?,
-        Err(PlaceFault::NoPlacement { items, buckets }) => {
-            put_text(line, "items")?;
-            put_numbers(line, items.as_slice())?;
-            put_text(line, "buckets")?;
-            put_numbers(line, buckets.as_slice())?;
-        }
-        Err(_) => return Err(BadCase::Unfit),
+        Ok(placement) => Ok(put_placed(line, placement.as_slice())?),
+        Err(fault) => put_witness(line, &fault),
     }
+}
+
+fn put_witness(line: &mut String, fault: &PlaceFault) -> Result<(), BadCase> {
+    let PlaceFault::NoPlacement { items, buckets } = fault else {
+        return Err(BadCase::OutOfMemory);
+    };
+    put_text(line, "items")?;
+    put_numbers(line, items.as_slice())?;
+    put_text(line, "buckets")?;
+    put_numbers(line, buckets.as_slice())?;
     Ok(())
 }
 

@@ -158,9 +158,20 @@ fn put_scores<R: Threads + Sync>(
     let weights = weights(alloc, case, &secret)?;
     let query = queries(alloc, case, weights.keyword_blocks(), &secret, &mut words)?;
     let replies = replies(rt, alloc, case, &weights, &secret, &keys, &query)?;
-    if call == "score" {
-        put_ciphers(alloc, line, &query)?;
-        put_ciphers(alloc, line, &replies)?;
-    }
+    put_digests(alloc, line, call, &query, &replies)?;
     put_all_slots(alloc, line, &secret, &replies)
+}
+
+fn put_digests(
+    alloc: Global,
+    line: &mut String,
+    call: &str,
+    query: &[Cipher],
+    replies: &[Cipher],
+) -> Result<(), AllocError> {
+    if call == "slots" {
+        return Ok(());
+    }
+    put_ciphers(alloc, line, query)?;
+    put_ciphers(alloc, line, replies)
 }

@@ -7,13 +7,13 @@ ghost use Rattle.co_switch.specs.Keys.{keys_degree};
 
 use crate::bfv::{drawn, encrypted, have_degree, put_all_opened};
 use crate::cases::{BadCase, Case, degree_of};
-use crate::lines::{put, put_bytes, put_ciphers, put_each, put_text};
+use crate::lines::{put, put_bytes, put_ciphers, put_each};
+use crate::slots::put_fault;
 use crate::switch::keyed;
 use co_bfv::{Cipher, Secret, encrypt};
 use co_board::OpenGate;
 use co_pir::{Rows, answer, expand, levels, open_reply, query_message};
 use co_ring::{Degree, Modulus, Poly};
-use co_slots::ByteFault;
 use co_switch::{KeySet, Steps};
 use rand_core::SeedableRng;
 use rand_xoshiro::SplitMix64;
@@ -61,8 +61,6 @@ fn put_query(alloc: Global, line: &mut String, case: Case) -> Result<(), BadCase
     Ok(())
 }
 
-/// What the ciphertexts of the expanded query open to and their digests, the digest of the reply and
-/// what it opens to, and the digest of the query.
 fn put_retrieval<R: Threads + Sync>(
     rt: &R,
     alloc: Global,
@@ -72,13 +70,42 @@ fn put_retrieval<R: Threads + Sync>(
     let mut words = SplitMix64::seed_from_u64(case.number("stream") as u64);
     let (secret, keys) = keyed(alloc, case, &mut words)?;
     let query = query(alloc, case, &secret, &mut words)?;
-    let expanded = expanded(alloc, case, &keys, &query)?;
-    put_all_opened(alloc, line, &secret, &expanded)?;
-    put_each(alloc, line, &expanded)?;
-    let reply = replied(rt, alloc, case, &keys, &query)?;
-    put_ciphers(alloc, line, &reply)?;
-    put_row(alloc, line, &secret, &reply)?;
+    put_expansion(alloc, line, case, &secret, &keys, &query)?;
+    put_reply(rt, alloc, line, case, &secret, &keys, &query)?;
     Ok(put_ciphers(alloc, line, &[query])?)
+}
+
+/// What the ciphertexts of the expanded query open to, and their digests.
+fn put_expansion(
+    alloc: Global,
+    line: &mut String,
+    case: Case,
+    secret: &Secret,
+    keys: &KeySet,
+    query: &Cipher,
+) -> Result<(), BadCase>
+    requires { keys_degree keys.now ≡ ciphertext_degree query.now }
+{
+    let expanded = expanded(alloc, case, keys, query)?;
+    put_all_opened(alloc, line, secret, &expanded)?;
+    Ok(put_each(alloc, line, &expanded)?)
+}
+
+/// The digest of the reply, and what it opens to.
+fn put_reply<R: Threads + Sync>(
+    rt: &R,
+    alloc: Global,
+    line: &mut String,
+    case: Case,
+    secret: &Secret,
+    keys: &KeySet,
+    query: &Cipher,
+) -> Result<(), BadCase>
+    requires { keys_degree keys.now ≡ ciphertext_degree query.now }
+{
+    let reply = replied(rt, alloc, case, keys, query)?;
+    put_ciphers(alloc, line, &reply)?;
+    put_row(alloc, line, secret, &reply)
 }
 
 fn query(
@@ -166,14 +193,9 @@ fn put_row(
         return Err(BadCase::Unfit);
     }
     match open_reply(alloc, secret, reply) {
-        Ok(bytes) => put_bytes(alloc, line, bytes.as_slice())?,
-        Err(ByteFault::NotByte { place }) => {
-            put_text(line, "not byte")?;
-            put(line, place as u128)?;
-        }
-        Err(ByteFault::OutOfMemory) => return Err(BadCase::OutOfMemory),
+        Ok(bytes) => Ok(put_bytes(alloc, line, bytes.as_slice())?),
+        Err(fault) => put_fault(line, fault),
     }
-    Ok(())
 }
 
 /// The bytes of a reply of two ciphertexts, of given messages.

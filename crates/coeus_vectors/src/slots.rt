@@ -44,12 +44,16 @@ fn put_payload(alloc: Global, line: &mut String, case: Case) -> Result<(), BadCa
 fn put_payload_bytes(alloc: Global, line: &mut String, case: Case) -> Result<(), BadCase> {
     let poly = case.poly(alloc, Modulus::Plain, "poly")?;
     match decode_bytes(alloc, &poly) {
-        Ok(bytes) => put_bytes(alloc, line, bytes.as_slice())?,
-        Err(ByteFault::NotByte { place }) => {
-            put_text(line, "not byte")?;
-            put(line, place as u128)?;
-        }
-        Err(ByteFault::OutOfMemory) => return Err(BadCase::OutOfMemory),
+        Ok(bytes) => Ok(put_bytes(alloc, line, bytes.as_slice())?),
+        Err(fault) => put_fault(line, fault),
     }
+}
+
+pub fn put_fault(line: &mut String, fault: ByteFault) -> Result<(), BadCase> {
+    let ByteFault::NotByte { place } = fault else {
+        return Err(BadCase::OutOfMemory);
+    };
+    put_text(line, "not byte")?;
+    put(line, place as u128)?;
     Ok(())
 }

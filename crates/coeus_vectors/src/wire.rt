@@ -4,12 +4,11 @@ use crate::bfv::given;
 use crate::cases::{BadCase, Case};
 use crate::lines::{put, put_bytes, put_text};
 use crate::noise::tested;
-use co_bfv::Cipher;
-use co_link::Target;
+use co_link::{Bytes, Target};
 use co_wire::{
     WireFault, read_ciphers, record_chunks, reply_length, request_length, write_ciphers,
 };
-use std::alloc::{AllocError, Global};
+use std::alloc::Global;
 
 pub fn line(alloc: Global, call: &str, case: Case) -> Result<String, BadCase> {
     let mut line = String::new(alloc);
@@ -40,35 +39,37 @@ fn put_lengths(line: &mut String, case: Case) -> Result<(), BadCase> {
 
 /// The bytes of the ciphertext whose parts a case lists, and whether they are read and written again.
 fn put_written(alloc: Global, line: &mut String, case: Case) -> Result<(), BadCase> {
-    let bytes = write_ciphers(alloc, &[given(alloc, case)?])?;
+    let cipher = given(alloc, case)?;
+    let bytes = write_ciphers(alloc, &[cipher])?;
     put_bytes(alloc, line, bytes.as_slice())?;
-    if let Ok(ciphers) = read_ciphers(alloc, case.degree()?, 1, bytes.as_slice()) {
-        put_again(alloc, line, &ciphers, bytes.as_slice())?;
-    }
-    Ok(())
-}
-
-fn put_again(
-    alloc: Global,
-    line: &mut String,
-    ciphers: &[Cipher],
-    bytes: &[u8],
-) -> Result<(), AllocError> {
-    if write_ciphers(alloc, ciphers)?.as_slice() == bytes {
+    if written_again(alloc, case, bytes.as_slice())?.as_slice() == bytes.as_slice() {
         put_text(line, "again")?;
     }
     Ok(())
 }
 
+/// What is written of the ciphertext that bytes are read as.
+fn written_again(alloc: Global, case: Case, bytes: &[u8]) -> Result<Bytes, BadCase> {
+    match read_ciphers(alloc, case.degree()?, 1, bytes) {
+        Ok(ciphers) => Ok(write_ciphers(alloc, &ciphers)?),
+        Err(_) => return Err(BadCase::Unfit),
+    }
+}
+
 /// Whether bytes are so many ciphertexts, or why they are not.
 fn put_reading(alloc: Global, line: &mut String, case: Case) -> Result<(), BadCase> {
     let bytes = put_in(alloc, case)?;
-    let answer = read_ciphers(alloc, case.degree()?, case.number("count"), &bytes);
-    match answer {
-        Ok(_) => put_text(line, "good")?,
-        Err(WireFault::Length { wanted, found }) => write!(line, " length {wanted} {found}")?,
-        Err(WireFault::Range { place }) => write!(line, " range {place}")?,
-        Err(_) => return Err(BadCase::OutOfMemory),
+    match read_ciphers(alloc, case.degree()?, case.number("count"), &bytes) {
+        Ok(_) => Ok(put_text(line, "good")?),
+        Err(fault) => put_fault(line, fault),
+    }
+}
+
+fn put_fault(line: &mut String, fault: WireFault) -> Result<(), BadCase> {
+    match fault {
+        WireFault::Length { wanted, found } => write!(line, " length {wanted} {found}")?,
+        WireFault::Range { place } => write!(line, " range {place}")?,
+        _ => return Err(BadCase::OutOfMemory),
     }
     Ok(())
 }
