@@ -112,14 +112,39 @@ fn queries(
     words: &mut SplitMix64,
 ) -> Result<Vec<Cipher>, BadCase> {
     let mut query = Vec::new(alloc);
-    for block in 0..blocks {
-        let name = format!(in alloc; "query{block}")?;
-        let cipher = encrypted_slots(alloc, case, name.as_str(), secret, words)?;
-        if query.push(cipher).is_err() {
-            return Err(BadCase::OutOfMemory);
-        }
-    }
+    draw(alloc, case, blocks, secret, words, &mut query)?;
     Ok(query)
+}
+
+fn draw(
+    alloc: Global,
+    case: Case,
+    blocks: usize,
+    secret: &Secret,
+    words: &mut SplitMix64,
+    query: &mut Vec<Cipher>,
+) -> Result<(), BadCase> {
+    for block in 0..blocks {
+        let cipher = block_query(alloc, case, block, secret, words)?;
+        keep(query, cipher)?;
+    }
+    Ok(())
+}
+
+fn keep(ciphers: &mut Vec<Cipher>, cipher: Cipher) -> Result<(), AllocError> {
+    Ok(ciphers.push(cipher)?)
+}
+
+/// The ciphertext of a keyword block.
+fn block_query(
+    alloc: Global,
+    case: Case,
+    block: usize,
+    secret: &Secret,
+    words: &mut SplitMix64,
+) -> Result<Cipher, BadCase> {
+    let name = format!(in alloc; "query{block}")?;
+    encrypted_slots(alloc, case, name.as_str(), secret, words)
 }
 
 /// The replies to a query.
