@@ -128,7 +128,8 @@ fn pad(out: &mut Vec<u8>, size: usize) -> Result<(), AllocError>
     ensures { OnOk result (out.new.items ≡ out.old.items ++ replicate (size - length out.old.items) 0) }
 {
     let missing = size.saturating_sub(out.len());
-    for _ in 0..missing {
+    for added in 0..missing {
+        let _ = added;
         out.push(0)?;
     }
     Ok(())
