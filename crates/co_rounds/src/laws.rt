@@ -8,7 +8,7 @@ ghost use Rattle.std.specs.List.{Contains};
 ghost use Rattle.co_bucket.specs.Lists.{bucket_count, candidates_of};
 ghost use Rattle.co_bucket.specs.Bytes.{record_chunks};
 ghost use Rattle.co_math.specs.Coefficients.{AreBelow, signed_coefficients};
-ghost use Rattle.co_noise.specs.Shapes.{keyword_blocks, document_blocks};
+ghost use Rattle.co_noise.specs.Shapes.{numbers, keyword_blocks, document_blocks};
 ghost use Rattle.co_noise.specs.Bounds.{HasRoom, score_bound};
 ghost use Rattle.co_slots.specs.Payloads.{IsPayload};
 ghost use Rattle.co_bfv.specs.Secrets.{IsSecret};
@@ -27,7 +27,7 @@ ghost use Rattle.co_tfidf.specs.Scores.{scores};
 ghost use Rattle.co_tfidf.specs.EntryScores.{weight_in};
 ghost use Rattle.co_wire.specs.Bodies.{AreKeysFor, AreCiphers, SpellsCiphers, SpellsKeys};
 ghost use Rattle.co_wire.specs.Public.{public_of};
-ghost use Rattle.co_link.specs.declared.messages.Target.TheVariants.{Public, Score, Meta, Document as ForDocument};
+ghost use Rattle.co_link.specs.declared.messages.Target.TheVariants.{Public, Keys as ForKeys, Score, Meta, Document as ForDocument};
 ghost use Rattle.co_link.specs.declared.messages.Request.{Request};
 ghost use Rattle.co_link.specs.declared.messages.Exchange.{Exchange};
 ghost use Rattle.co_link.specs.Exchanges.{exchange_of};
@@ -39,6 +39,7 @@ ghost use Rattle.co_rounds.specs.declared.answer.Answer.TheVariants.{OutOfMemory
 ghost use Rattle.co_rounds.specs.Serving.{weights_of, gathered, bucket_table, bin_table};
 ghost use Rattle.co_rounds.specs.Answers.{IsAnswer, IsGoodRequest, Spells, reply_with};
 ghost use Rattle.co_rounds.specs.Honest.{IsHonest, AreHeld};
+ghost use Rattle.co_rounds.specs.Plans.{plan};
 ghost use Rattle.co_rounds.specs.Scoring.{AskScores, scores_read};
 ghost use Rattle.co_rounds.specs.Recording.{IsLibraryFor, ShowsDocument, CanBeOpened, AsksFor, bytes_of, bucket_replies};
 
@@ -60,6 +61,11 @@ pub fn score_bounds_agree()
 pub fn tables_are_whole()
     ensures buckets { (l : Parts) → IsLibrary l → HasRoom l.shape → (bucket : ℕ) → bucket < bucket_count l.shape.hits → IsTable (bucket_table l bucket) }
     ensures bins { (l : Parts) → IsLibrary l → HasRoom l.shape → IsTable (bin_table l) }
+{}
+
+/// The plan for degree 512, 4 documents, 5 terms, 16 hits, and one row, bin and chunk, in numerals.
+pub fn a_plan_in_numerals()
+    ensures { plan (numbers 512 4 5 16 0 1 1 1) ≡ (Public, 0) ∷ (ForKeys, 688128) ∷ (Score, 14336) ∷ (Meta, 344064) ∷ (ForDocument, 14336) ∷ [] }
 {}
 
 /// A request has one answer under the keys that are held, but for want of memory.
