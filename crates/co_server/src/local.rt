@@ -30,12 +30,13 @@ pub struct LocalLink<'a, R> {
 impl<'a, R> Model for LocalLink<'a, R> {
     ghost use Rattle.co_link.specs.Dialled.{dialling_of};
     ghost use Rattle.co_server.specs.Local.{LocalState, IsLocal};
+    ghost use Rattle.std.specs.Thread.{IsSync};
 
     ghost Value = { LocalState };
 
     ghost view = { λ s. record { library = s.loaded.now; workers = s.workers; told = s.told.items; keys = s.session; dialling = dialling_of s.dials } };
 
-    ghost invariant = { λ s. IsLocal (record { library = s.loaded.now; workers = s.workers; told = s.told.items; keys = s.session; dialling = dialling_of s.dials }) };
+    ghost invariant = { λ s. IsSync R.row × IsLocal (record { library = s.loaded.now; workers = s.workers; told = s.told.items; keys = s.session; dialling = dialling_of s.dials }) };
 }
 
 impl<R> Drop for LocalLink<'_, R> {
@@ -52,7 +53,7 @@ impl<R> Drop for LocalLink<'_, R> {
     }
 }
 
-impl<'a, R> LocalLink<'a, R> {
+impl<'a, R: Sync> LocalLink<'a, R> {
     /// A link to a new session, with no exchange so far. It takes no memory.
     pub fn new(rt: &'a R, alloc: Global, loaded: &'a Loaded, workers: u32) -> Self
         requires { (1 ≤ workers) × (workers ≤ 64) }

@@ -1,5 +1,6 @@
 -- The tables of a library.
-use Rattle.std.proofs.Common.{◌≡◌, ℕ, ◌+◌, ◌*◌, ◌/◌, ◌<◌, ◌≤◌, refl, sym, ap, subst, ◌∙◌, arith, List, [], length, get_or, max, All}
+use Rattle.std.proofs.Common.{◌≡◌, ℕ, ◌+◌, ◌*◌, ◌/◌, ◌<◌, ◌≤◌, refl, sym, ap, subst, ◌∙◌, arith, List, [], length, get_or, max, All, Result}
+use Rattle.std.specs.Prelude.{IfOk}
 use Rattle.std.proofs.Math.Nat.{div-le_self}
 use Rattle.std.proofs.lemmas.List.FromFn.{length-map-range_with_len}
 use Rattle.co_noise.specs.Bounds.{HasRoom}
@@ -43,3 +44,7 @@ list_there l lists bucket e b =
 
 pub chunks-short : (n : ℕ) → record_chunks n ≤ 2097152
 chunks-short n = let few = div-le_self 128 n in omega (arith, few)
+
+-- a result that is one value is an equal one
+pub renamed : {X E : Type 0} (r : Result X E) (a b : X) → a ≡ b → IfOk r (λ t. t ≡ a) → IfOk r (λ t. t ≡ b)
+renamed r a b e h = subst (λ x. IfOk r (λ t. t ≡ x)) e h
