@@ -1,5 +1,5 @@
 -- A request has one answer under the keys that are held, but for want of memory.
-use Rattle.std.proofs.Common.{◌≡◌, ◌≢◌, ◌⊎◌, ℕ, ◌*◌, ◌<◌, ◌≤◌, refl, sym, ap, subst, ◌∙◌, arith, inl, inr, List, [], ◌∷◌, length, Option, Some, None}
+use Rattle.std.proofs.Common.{◌≡◌, ◌≢◌, ◌⊎◌, ℕ, ◌*◌, refl, sym, ap, subst, ◌∙◌, arith, inl, inr, List, [], ◌∷◌, length, Option, Some, None}
 use Rattle.std.proofs.lemmas.Bool.{cases_order}
 use Rattle.co_link.specs.declared.messages.Target.{Target}
 use Rattle.co_link.specs.declared.messages.Target.TheVariants.{Public, Keys as ForKeys, Score, Meta, Document}
@@ -18,7 +18,7 @@ use Rattle.co_matvec.proofs.Only.{replies_only}
 use Rattle.co_pir.specs.Replies.{retrieved}
 use Rattle.co_wire.specs.declared.fault.WireFault.{WireFault}
 use Rattle.co_wire.specs.declared.fault.WireFault.TheVariants.{Length as WrongLength, Range as WrongRange, Public as WrongPublic, OutOfMemory as NoMemory}
-use Rattle.co_wire.specs.Bodies.{IsFirstOutOfRange, ciphers_bytes, modulus_at, residue_at}
+use Rattle.co_wire.specs.Bodies.{IsFirstOutOfRange, ciphers_bytes}
 use Rattle.co_wire.specs.BadBodies.{IsBadBody}
 use Rattle.co_wire.specs.Lengths.{request_size}
 use Rattle.co_wire.proofs.One_value.{one-list, one-key-set}

@@ -3,7 +3,7 @@
 //! Over honest exchanges a client that asks as planned reads the plain answer; and a session has one
 //! answer to a request.
 
-ghost use Rattle.std.specs.Prelude.{◌≡◌, ◌≢◌, ◌≤◌, ◌<◌, ◌*◌, ◌⊎◌, [], ◌∷◌, ℕ, ℤ, List, length, slice_get, Option, Some, Ok};
+ghost use Rattle.std.specs.Prelude.{◌≡◌, ◌≢◌, ◌≤◌, ◌<◌, ◌*◌, ◌⊎◌, [], ◌∷◌, ℕ, ℤ, List, length, take, drop, slice_get, Option, Some, Ok};
 ghost use Rattle.std.specs.List.{Contains};
 ghost use Rattle.co_bucket.specs.Lists.{bucket_count, candidates_of};
 ghost use Rattle.co_bucket.specs.Bytes.{record_chunks};
@@ -21,6 +21,7 @@ ghost use Rattle.co_pir.specs.Tables.{IsTable, row_bytes};
 ghost use Rattle.co_pir.specs.Replies.{retrieved};
 ghost use Rattle.co_pir.specs.Openings.{opened_reply};
 ghost use Rattle.co_corpus.specs.declared.documents.Document.{Document};
+ghost use Rattle.co_pack.specs.Records.{record_of};
 ghost use Rattle.co_text.specs.Terms.{distinct};
 ghost use Rattle.co_text.specs.Numbers.{numbers_of as keywords_of};
 ghost use Rattle.co_tfidf.specs.Scores.{scores};
@@ -41,6 +42,7 @@ ghost use Rattle.co_rounds.specs.Answers.{IsAnswer, IsGoodRequest, Spells, reply
 ghost use Rattle.co_rounds.specs.Honest.{IsHonest, AreHeld};
 ghost use Rattle.co_rounds.specs.Plans.{plan};
 ghost use Rattle.co_rounds.specs.Scoring.{AskScores, scores_read};
+ghost use Rattle.co_rounds.specs.Placing.{document_row, document_start};
 ghost use Rattle.co_rounds.specs.Recording.{IsLibraryFor, ShowsDocument, CanBeOpened, AsksFor, bytes_of, bucket_replies};
 
 /// The entries of a library are entries of its weight matrix. The weight of a term there is that of
@@ -170,4 +172,27 @@ pub fn document_round_opens()
         → (replies : List Ciphertext) → SpellsCiphers l.shape.degree l.shape.chunks replies reply
         → (bin : ℕ) → AsksFor l.shape.degree secret query l.shape.bins bin
         → IsPayload (row_bytes (bin_table l) bin) (opened_reply secret replies) }
+{}
+
+/// So a client that asks a bucket for the row of a document reads the document's record there.
+pub fn records_are_read()
+    ensures { (l : Parts) (secret : List ℤ) (keys : Keys) → CanBeOpened l secret keys → (keys_body : List ℕ) → SpellsKeys l.shape keys keys_body
+        → (queries : List Ciphertext) (asked : List ℕ) → SpellsCiphers l.shape.degree (bucket_count l.shape.hits) queries asked
+        → (reply : List ℕ) → IsHonest l (Some keys_body) (exchange_of (record { target = Meta; body = asked }) (reply_with 200 reply))
+        → (replies : List Ciphertext) → SpellsCiphers l.shape.degree (bucket_count l.shape.hits * record_chunks l.shape.degree) replies reply
+        → (bucket number : ℕ) (document : Document) (shown : ShowsDocument l bucket number document) → bucket < bucket_count l.shape.hits
+        → AsksFor l.shape.degree secret (ciphertext_at queries bucket) l.shape.rows (document_row l.shape bucket number)
+        → record_of (take 256 (drop (document_start l.shape bucket number) (bytes_of (opened_reply secret (bucket_replies l.shape replies bucket)))))
+        ≡ Ok (record { document = number; place = shown.place; title = document.title }) }
+{}
+
+/// And a client that asks for the bin that the record names reads the document's text there.
+pub fn texts_are_read()
+    ensures { (l : Parts) (secret : List ℤ) (keys : Keys) → CanBeOpened l secret keys → (keys_body : List ℕ) → SpellsKeys l.shape keys keys_body
+        → (query : Ciphertext) (asked : List ℕ) → SpellsCiphers l.shape.degree 1 (query ∷ []) asked
+        → (reply : List ℕ) → IsHonest l (Some keys_body) (exchange_of (record { target = ForDocument; body = asked }) (reply_with 200 reply))
+        → (replies : List Ciphertext) → SpellsCiphers l.shape.degree l.shape.chunks replies reply
+        → (bucket number : ℕ) (document : Document) (shown : ShowsDocument l bucket number document)
+        → AsksFor l.shape.degree secret query l.shape.bins shown.place.bin
+        → take shown.place.length (drop shown.place.offset (bytes_of (opened_reply secret replies))) ≡ document.text }
 {}
