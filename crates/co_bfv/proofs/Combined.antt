@@ -12,6 +12,7 @@ use Rattle.co_math.proofs.Residues.{residue-lt}
 use Rattle.co_math.proofs.Spreads.{spread-low}
 use Rattle.co_math.proofs.Places.{coefficients-IsWrapped}
 use Rattle.co_math.proofs.Polynomials.{product-IsWrapped}
+use Rattle.co_math.proofs.Agreements.{Agree}
 use Rattle.co_math.proofs.Switched.{wrapped_bound}
 use Rattle.co_math.proofs.Done.{residues_below}
 use Rattle.co_math.specs.Parameters.{q, plain_modulus, plain_half}
@@ -69,6 +70,15 @@ pub difference_are : (c d e : Ciphertext) → length c.c1 ≡ length c.c0
 unfolding ciphertext_difference
 difference_are c d e l x y = parts_are (length c.c0) (length c.c1) (minus (coefficients c.c0) (coefficients d.c0)) (minus (coefficients c.c1) (coefficients d.c1)) e l x y
 
+-- of ciphertexts that are these
+pub sum_made : (x y z c d : Ciphertext) → IsCiphertext x → x ≡ c → y ≡ d → AreResidues q (length x.c0) (plus (coefficients x.c0) (coefficients y.c0)) z.c0
+    → AreResidues q (length x.c1) (plus (coefficients x.c1) (coefficients y.c1)) z.c1 → z ≡ ciphertext_sum c d
+sum_made x y z c d h a b f g = sum_are x y z h.one_degree f g ∙ (λ i. ciphertext_sum (a i) (b i))
+
+pub difference_made : (x y z c d : Ciphertext) → IsCiphertext x → x ≡ c → y ≡ d → AreResidues q (length x.c0) (minus (coefficients x.c0) (coefficients y.c0)) z.c0
+    → AreResidues q (length x.c1) (minus (coefficients x.c1) (coefficients y.c1)) z.c1 → z ≡ ciphertext_difference c d
+difference_made x y z c d h a b f g = difference_are x y z h.one_degree f g ∙ (λ i. ciphertext_difference (a i) (b i))
+
 pub product_are : (c : Ciphertext) (xs : List ℕ) (e : Ciphertext) → length c.c1 ≡ length c.c0
     → AreResidues q (length c.c0) (product (length c.c0) (coefficients c.c0) (centred_coefficients xs)) e.c0
     → AreResidues q (length c.c1) (product (length c.c1) (coefficients c.c1) (centred_coefficients xs)) e.c1 → e ≡ plain_product c xs
@@ -94,39 +104,47 @@ zero_means n s d =
     agree : (k : ℤ) → Congruent q (coefficients zeros k) (pos 0)
     agree = residues_of-agree q n (λ _. pos 0) (omega arith) (degree_positive n d) (λ k. refl)
 
--- the noise of a sum
-pub sum_means : (c d : Ciphertext) → IsCiphertext c → IsCiphertext d → ciphertext_degree d ≡ ciphertext_degree c
-    → (s m₁ m₂ : ℤ → ℤ) (b₁ b₂ : ℕ) → MeansWithin s c m₁ b₁ → MeansWithin s d m₂ b₂ → MeansWithin s (ciphertext_sum c d) (plus m₁ m₂) (b₁ + b₂)
-unfolding ciphertext_sum
-sum_means c d hc hd e s m₁ m₂ b₁ b₂ x y =
+-- the noise of two ciphertexts that are added by parts, in a way that keeps polynomials and adds bounds
+combined_means : (add : (ℤ → ℤ) → (ℤ → ℤ) → ℤ → ℤ) → ((n : ℕ) (a b : ℤ → ℤ) → IsWrapped n a → IsWrapped n b → IsWrapped n (add a b))
+    → ((t q n : ℕ) (s c₀ c₁ d₀ d₁ e₀ e₁ a b : ℤ → ℤ) (x y : ℕ) → 0 < t * q → Agree q e₀ (add c₀ d₀) → Agree q e₁ (add c₁ d₁)
+    → Means t q n s c₀ c₁ a x → Means t q n s d₀ d₁ b y → Means t q n s e₀ e₁ (add a b) (x + y))
+    → (c d : Ciphertext) → IsCiphertext c → IsCiphertext d → ciphertext_degree d ≡ ciphertext_degree c → (s m₁ m₂ : ℤ → ℤ) (b₁ b₂ : ℕ) → MeansWithin s c m₁ b₁ → MeansWithin s d m₂ b₂
+    → MeansWithin s (record { c0 = residues_of q (ciphertext_degree c) (add (coefficients c.c0) (coefficients d.c0)); c1 = residues_of q (ciphertext_degree c) (add (coefficients c.c1) (coefficients d.c1)) }) (add m₁ m₂) (b₁ + b₂)
+combined_means add wrapped adds c d hc hd e s m₁ m₂ b₁ b₂ x y =
     let n = ciphertext_degree c in
-    let f = plus (coefficients c.c0) (coefficients d.c0) in
-    let g = plus (coefficients c.c1) (coefficients d.c1) in
+    let f = add (coefficients c.c0) (coefficients d.c0) in
+    let g = add (coefficients c.c1) (coefficients d.c1) in
     let z = positive_degree c hc in
     let w₀ = subst (λ (k : ℕ). IsWrapped k (coefficients d.c0)) e (c0-IsWrapped d hd) in
     let w₁ = subst (λ (k : ℕ). IsWrapped k (coefficients d.c1)) e (c1-IsWrapped d hd) in
     let y' = subst (λ (k : ℕ). Means plain_modulus q k s (coefficients d.c0) (coefficients d.c1) m₂ b₂) e y in
-    subst (λ (k : ℕ). Means plain_modulus q k s (coefficients (residues_of q n f)) (coefficients (residues_of q n g)) (plus m₁ m₂) (b₁ + b₂)) (sym (length-residues_of q n f))
-    (means_plus plain_modulus q n s (coefficients c.c0) (coefficients c.c1) (coefficients d.c0) (coefficients d.c1) (coefficients (residues_of q n f)) (coefficients (residues_of q n g)) m₁ m₂ b₁ b₂ tq_positive
-    (residues_of-agree q n f (omega arith) z (plus-IsWrapped n (coefficients c.c0) (coefficients d.c0) (c0-IsWrapped c hc) w₀))
-    (residues_of-agree q n g (omega arith) z (plus-IsWrapped n (coefficients c.c1) (coefficients d.c1) (c1-IsWrapped c hc) w₁)) x y')
+    subst (λ (k : ℕ). Means plain_modulus q k s (coefficients (residues_of q n f)) (coefficients (residues_of q n g)) (add m₁ m₂) (b₁ + b₂)) (sym (length-residues_of q n f))
+    (adds plain_modulus q n s (coefficients c.c0) (coefficients c.c1) (coefficients d.c0) (coefficients d.c1) (coefficients (residues_of q n f)) (coefficients (residues_of q n g)) m₁ m₂ b₁ b₂ tq_positive
+    (residues_of-agree q n f (omega arith) z (wrapped n (coefficients c.c0) (coefficients d.c0) (c0-IsWrapped c hc) w₀))
+    (residues_of-agree q n g (omega arith) z (wrapped n (coefficients c.c1) (coefficients d.c1) (c1-IsWrapped c hc) w₁)) x y')
+
+-- the noise of a sum
+pub sum_means : (c d : Ciphertext) → IsCiphertext c → IsCiphertext d → ciphertext_degree d ≡ ciphertext_degree c
+    → (s m₁ m₂ : ℤ → ℤ) (b₁ b₂ : ℕ) → MeansWithin s c m₁ b₁ → MeansWithin s d m₂ b₂ → MeansWithin s (ciphertext_sum c d) (plus m₁ m₂) (b₁ + b₂)
+unfolding ciphertext_sum
+sum_means c d hc hd e s m₁ m₂ b₁ b₂ x y = combined_means plus plus-IsWrapped means_plus c d hc hd e s m₁ m₂ b₁ b₂ x y
 
 -- the noise of a difference
 pub difference_means : (c d : Ciphertext) → IsCiphertext c → IsCiphertext d → ciphertext_degree d ≡ ciphertext_degree c
     → (s m₁ m₂ : ℤ → ℤ) (b₁ b₂ : ℕ) → MeansWithin s c m₁ b₁ → MeansWithin s d m₂ b₂ → MeansWithin s (ciphertext_difference c d) (minus m₁ m₂) (b₁ + b₂)
 unfolding ciphertext_difference
-difference_means c d hc hd e s m₁ m₂ b₁ b₂ x y =
-    let n = ciphertext_degree c in
-    let f = minus (coefficients c.c0) (coefficients d.c0) in
-    let g = minus (coefficients c.c1) (coefficients d.c1) in
-    let z = positive_degree c hc in
-    let w₀ = subst (λ (k : ℕ). IsWrapped k (coefficients d.c0)) e (c0-IsWrapped d hd) in
-    let w₁ = subst (λ (k : ℕ). IsWrapped k (coefficients d.c1)) e (c1-IsWrapped d hd) in
-    let y' = subst (λ (k : ℕ). Means plain_modulus q k s (coefficients d.c0) (coefficients d.c1) m₂ b₂) e y in
-    subst (λ (k : ℕ). Means plain_modulus q k s (coefficients (residues_of q n f)) (coefficients (residues_of q n g)) (minus m₁ m₂) (b₁ + b₂)) (sym (length-residues_of q n f))
-    (means_minus plain_modulus q n s (coefficients c.c0) (coefficients c.c1) (coefficients d.c0) (coefficients d.c1) (coefficients (residues_of q n f)) (coefficients (residues_of q n g)) m₁ m₂ b₁ b₂ tq_positive
-    (residues_of-agree q n f (omega arith) z (minus-IsWrapped n (coefficients c.c0) (coefficients d.c0) (c0-IsWrapped c hc) w₀))
-    (residues_of-agree q n g (omega arith) z (minus-IsWrapped n (coefficients c.c1) (coefficients d.c1) (c1-IsWrapped c hc) w₁)) x y')
+difference_means c d hc hd e s m₁ m₂ b₁ b₂ x y = combined_means minus minus-IsWrapped means_minus c d hc hd e s m₁ m₂ b₁ b₂ x y
+
+-- of ciphertexts that are these
+pub sum_meant : (x y z c d : Ciphertext) → IsCiphertext x → IsCiphertext y → x ≡ c → y ≡ d → z ≡ ciphertext_sum c d → ciphertext_degree d ≡ ciphertext_degree c
+    → (s m₁ m₂ : ℤ → ℤ) (b₁ b₂ : ℕ) → MeansWithin s c m₁ b₁ → MeansWithin s d m₂ b₂ → MeansWithin s z (plus m₁ m₂) (b₁ + b₂)
+sum_meant x y z c d hx hy a b e one s m₁ m₂ b₁ b₂ f g =
+    subst (λ (v : Ciphertext). MeansWithin s v (plus m₁ m₂) (b₁ + b₂)) (sym e) (sum_means c d (subst IsCiphertext a hx) (subst IsCiphertext b hy) one s m₁ m₂ b₁ b₂ f g)
+
+pub difference_meant : (x y z c d : Ciphertext) → IsCiphertext x → IsCiphertext y → x ≡ c → y ≡ d → z ≡ ciphertext_difference c d → ciphertext_degree d ≡ ciphertext_degree c
+    → (s m₁ m₂ : ℤ → ℤ) (b₁ b₂ : ℕ) → MeansWithin s c m₁ b₁ → MeansWithin s d m₂ b₂ → MeansWithin s z (minus m₁ m₂) (b₁ + b₂)
+difference_meant x y z c d hx hy a b e one s m₁ m₂ b₁ b₂ f g =
+    subst (λ (v : Ciphertext). MeansWithin s v (minus m₁ m₂) (b₁ + b₂)) (sym e) (difference_means c d (subst IsCiphertext a hx) (subst IsCiphertext b hy) one s m₁ m₂ b₁ b₂ f g)
 
 halved : (r : ℕ) (b : Bool) → r < plain_modulus → leb (r + r) plain_modulus ≡ b → unsigned_abs (cond b (pos r) (pos r -ℤ pos plain_modulus)) ≤ plain_half
 halved r true l e = omega (arith, leb-true (r + r) plain_modulus e)

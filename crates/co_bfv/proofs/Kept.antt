@@ -1,5 +1,5 @@
 -- Products with a secret, by the values that are kept with it.
-use Rattle.std.proofs.Common.{◌≡◌, ℕ, sym, ap, subst, ◌∙◌, arith, ℤ, pos, ◌+ℤ◌, List, length}
+use Rattle.std.proofs.Common.{◌≡◌, ℕ, sym, ap, subst, ◌∙◌, arith, ℤ, pos, List, length}
 use Rattle.co_math.specs.Parameters.{q}
 use Rattle.co_math.specs.Polynomials.{product, plus}
 use Rattle.co_math.specs.Coefficients.{coefficients, signed_coefficients, AreResidues, residues_of}

@@ -5,7 +5,7 @@ use Rattle.co_math.specs.Sums.{total}
 use Rattle.co_math.specs.Polynomials.{plus, product}
 use Rattle.co_math.specs.Coefficients.{coefficients, IsDegree, residues_of}
 use Rattle.co_math.proofs.Residues.{residue-is, residue-same, residue_small, cong-add, cong-refl, cong-sym, cong-trans, cong-total, cong_from}
-use Rattle.co_math.specs.Residues.{Congruent, residue}
+use Rattle.co_math.specs.Residues.{Congruent}
 use Rattle.co_math.specs.Meanings.{phase, Means}
 use Rattle.co_math.proofs.Integers.{expand, linear, zero-mul}
 use Rattle.co_math.proofs.Totals.{total-none, total-same}

@@ -1,4 +1,4 @@
-// Ciphertexts: their parts, sums and differences, and products with plain polynomials.
+//! Ciphertexts: their parts, sums and differences, and products with plain polynomials.
 
 ghost use Rattle.std.specs.Prelude.{ℕ, ℤ, pos, ◌≡◌, ◌+◌, ◌*◌, length, IfOk};
 ghost use Rattle.co_math.specs.Parameters.{plain_half};
@@ -6,7 +6,8 @@ ghost use Rattle.co_math.specs.Polynomials.{IsWrapped, plus, minus, product};
 ghost use Rattle.co_ring.specs.Polynomials.{degree_of};
 ghost use Rattle.co_rns.specs.Residue_pairs.{centred_coefficients};
 ghost use Rattle.co_bfv.specs.Ciphertexts.{IsCiphertext, MeansWithin, ciphertext_degree};
-ghost use Rattle.co_bfv.specs.Ciphertexts.{zero_ciphertext, ciphertext_sum, ciphertext_difference, plain_product};
+ghost use Rattle.co_bfv.specs.Ciphertexts.{zero_ciphertext, plain_product};
+ghost use Rattle.co_bfv.specs.Ciphertexts.{ciphertext_sum, ciphertext_difference};
 
 use co_ring::{Degree, Modulus, Poly};
 use co_rns::Pair;
@@ -118,7 +119,8 @@ impl Cipher {
         ensures value { IfOk result (λ c. c ≡ plain_product self.now plain.now.coeffs) }
         ensures meaning { IfOk result (λ c. let n = ciphertext_degree self.now in
             (s m : ℤ → ℤ) (b : ℕ) → IsWrapped n s → MeansWithin s self.now m b
-            → MeansWithin s c (product n (centred_coefficients plain.now.coeffs) m) (n * plain_half * b)) }
+            → MeansWithin s c
+            (product n (centred_coefficients plain.now.coeffs) m) (n * plain_half * b)) }
         ensures degree { IfOk result (λ c. ciphertext_degree c ≡ ciphertext_degree self.now) }
     {
         Ok(Cipher {

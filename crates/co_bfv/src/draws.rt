@@ -1,4 +1,4 @@
-// Random polynomials, drawn from a generator's words.
+//! Random polynomials, drawn from a generator's words.
 
 ghost use Rattle.std.specs.Prelude.{ℕ, ◌≡◌, ◌<◌, ◌≤◌, length, unsigned_abs, IfOk, OnOk};
 ghost use Rattle.co_math.specs.Parameters.{q, first_modulus, second_modulus};
@@ -44,9 +44,9 @@ pub fn sample_uniform<R: Rng>(
     degree: Degree,
     rng: &mut R,
 ) -> Result<Pair, AllocError>
+    ensures degree { IfOk result (λ a. length a ≡ degree) }
     ensures value { IfOk result (λ a. a ≡ (uniform_draw degree (R.stream rng.old)).0) }
     ensures rest { OnOk result (R.stream rng.new ≡ (uniform_draw degree (R.stream rng.old)).1) }
-    ensures degree { IfOk result (λ a. length a ≡ degree) }
 {
     let mut first = Poly::zero(alloc, Modulus::First, degree)?;
     let mut second = Poly::zero(alloc, Modulus::Second, degree)?;
@@ -89,7 +89,8 @@ fn wide<R: Rng>(rng: &mut R) -> u128
 
 /// Four words: the residues of a number below q.
 fn coefficient<R: Rng>(rng: &mut R) -> (u64, u64)
-    ensures drawn { (composed result.0 result.1, R.stream rng.new) ≡ coefficient_draw (R.stream rng.old) }
+    ensures drawn { (composed result.0 result.1, R.stream rng.new)
+        ≡ coefficient_draw (R.stream rng.old) }
     ensures first { result.0 < first_modulus }
     ensures second { result.1 < second_modulus }
 {

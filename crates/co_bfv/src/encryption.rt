@@ -1,4 +1,4 @@
-// Encryption and decryption.
+//! Encryption and decryption.
 
 ghost use Rattle.std.specs.Prelude.{ℕ, ℤ, ◌≡◌, ◌*◌, ◌<◌, map, length, IfOk, OnOk};
 ghost use Rattle.co_math.specs.Parameters.{q, plain_modulus, fresh_bound};
@@ -84,7 +84,8 @@ fn scale_one(coefficient: u64) -> u128
 
 /// The message of a phase modulo q.
 fn open(alloc: Global, phase: &Pair) -> Result<Poly, AllocError>
-    ensures { IfOk result (λ p. p ≡ record { modulus = Modulus.Plain; coeffs = map opened phase.now }) }
+    ensures { IfOk result (λ p.
+        p ≡ record { modulus = Modulus.Plain; coeffs = map opened phase.now }) }
 {
     let mut message = Poly::zero(alloc, Modulus::Plain, Degree::of(phase.degree()))?;
     for k in 0..phase.degree() {

@@ -1,4 +1,4 @@
-// Secrets.
+//! Secrets.
 
 ghost use Rattle.std.specs.Prelude.{◌≡◌, length, IfOk};
 ghost use Rattle.co_math.specs.Parameters.{q};
@@ -71,7 +71,8 @@ impl Secret {
     pub fn mul(&self, alloc: Global, other: &Pair) -> Result<Pair, AllocError>
         requires { length other.now ≡ length self.now }
         ensures value { IfOk result (λ p. let n = length self.now in
-            p ≡ residues_of q n (product n (coefficients other.now) (signed_coefficients self.now))) }
+            p ≡ residues_of q n
+            (product n (coefficients other.now) (signed_coefficients self.now))) }
         ensures degree { IfOk result (λ p. length p ≡ length self.now) }
     {
         let degree = self.tables.degree();

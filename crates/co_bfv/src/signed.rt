@@ -1,4 +1,4 @@
-// Polynomials of small integers, modulo q.
+//! Polynomials of small integers, modulo q.
 
 ghost use Rattle.std.specs.Prelude.{◌≡◌, ◌<◌, length, IfOk};
 ghost use Rattle.co_math.specs.Residues.{residue};
@@ -25,9 +25,9 @@ pub fn reduce(value: i8, m: u64) -> u64
 /// A polynomial of small integers, modulo one of the moduli.
 pub fn reduce_all(
     alloc: Global,
+    values: &[i8],
     modulus: Modulus,
     degree: Degree,
-    values: &[i8],
 ) -> Result<Poly, AllocError>
     requires { length values.now ≡ degree }
     ensures { IfOk result (IsPoly modulus degree (signed_coefficients values.now)) }
@@ -47,7 +47,7 @@ pub fn residues(alloc: Global, degree: Degree, values: &[i8]) -> Result<Pair, Al
     ensures degree { IfOk result (λ p. length p ≡ degree) }
 {
     let _n = degree.get();
-    let first = reduce_all(alloc, Modulus::First, degree, values)?;
-    let second = reduce_all(alloc, Modulus::Second, degree, values)?;
+    let first = reduce_all(alloc, values, Modulus::First, degree)?;
+    let second = reduce_all(alloc, values, Modulus::Second, degree)?;
     Ok(Pair::from_parts(first, second))
 }

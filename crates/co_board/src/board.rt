@@ -12,6 +12,7 @@ use std::marker::Model;
 
 type View = LinkedList<Hand>;
 
+/// A word that counts up as its passes draw from it, and the number of units.
 #[derive(Drop)]
 pub struct Board {
     table: Table<(), View, Limits, Claimable, Global>,

@@ -6,17 +6,23 @@ use std::collections::LinkedList;
 /// How many units and passes a board has.
 #[derive(Clone, Copy)]
 pub struct Limits {
+    /// Units have the numbers below this one.
     pub units: u64,
+    /// How many passes there are.
     pub seats: u64,
 }
 
 /// What a pass knows. No value of it is made.
 pub struct Hand {
+    /// Those of its board.
     pub limits: Limits,
+    /// The pass's number.
     pub number: u64,
+    /// The numbers that it drew, the first one first.
     pub drawn: LinkedList<u64>,
 }
 
+/// The rule that a board's states keep.
 pub struct Claimable;
 
 impl TableRule<(), LinkedList<Hand>, Limits> for Claimable {
@@ -27,6 +33,7 @@ impl TableRule<(), LinkedList<Hand>, Limits> for Claimable {
     ghost first = { all_hands };
 }
 
+/// A hand draws the word's next number.
 pub struct Draw;
 
 impl Play<(), LinkedList<Hand>> for Draw {
@@ -35,6 +42,7 @@ impl Play<(), LinkedList<Hand>> for Draw {
     ghost then = { Drew };
 }
 
+/// A seat of several hands gives one away, or takes one in.
 pub struct Deal;
 
 impl Split<LinkedList<Hand>> for Deal {

@@ -1,4 +1,4 @@
-// Documents, and lists of them that make a corpus.
+//! Documents, and lists of them that make a corpus.
 ghost use Rattle.std.specs.Prelude.{◌≡◌};
 ghost use Rattle.co_corpus.specs.Documents.{IsCorpus};
 

@@ -1,4 +1,4 @@
-// Lines of a file.
+//! Lines of a file.
 ghost use Rattle.std.specs.Prelude.{◌≡◌, ◌≤◌, ◌∷◌, ◌==◌, length, position};
 ghost use Rattle.co_corpus.specs.Lines.{without_mark, lines, lines_left, is_blank, left_length};
 

@@ -1,6 +1,7 @@
-// From the bytes of a file to its documents.
+//! From the bytes of a file to its documents.
 ghost use Rattle.std.specs.Prelude.{◌≡◌, ◌≤◌, length, codes, string_bytes, option_map, option_and_then, All, IfOk};
 ghost use Rattle.co_corpus.specs.Documents.{IsDocument};
+ghost use Rattle.co_text.specs.declared.limits.TheConstants.{MAX_DOCUMENTS};
 ghost use Rattle.serde_json.specs.View.{view};
 ghost use Rattle.serde_json.specs.Find.{get, as_str};
 ghost use Rattle.co_corpus.specs.declared.reading.CorpusFault.TheVariants.{OutOfMemory};
@@ -118,7 +119,7 @@ fn add_line(
     documents: &mut Documents,
 ) -> Result<(), CorpusFault>
     ensures value { IsAnswer (λ _. documents.new) (add_line line documents.old bytes.now) result }
-    ensures many { length documents.old ≤ 65536 → length documents.new ≤ 65536 }
+    ensures many { length documents.old ≤ MAX_DOCUMENTS → length documents.new ≤ MAX_DOCUMENTS }
     ensures each { All IsDocument documents.old → All IsDocument documents.new }
 {
     if is_blank(bytes) {

@@ -1,4 +1,4 @@
-// The workers of a board.
+//! The workers of a board.
 
 ghost use Rattle.std.specs.Prelude.{ℕ, ◌≡◌, ◌<◌, ◌≤◌, ◌^◌, ◌++◌, ◌&&◌, List, [], All, IfOk, OnOk, length, map, true, false, vec_capacity};
 ghost use Rattle.co_board.specs.Once.{sum_below};

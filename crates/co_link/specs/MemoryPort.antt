@@ -41,6 +41,17 @@ port_tells p = record {
   ended = Some (map output_of p.ended.items);
 }
 
+-- what it tells of its current connection
+abbrev pub told_left : MemoryPort → Option (List ℕ)
+told_left p = Some (port_left p)
+
+abbrev pub told_put : MemoryPort → Option (List ℕ)
+told_put p = Some (port_put p)
+
+-- what a call of one direction leaves: the content and the faults of the other, and the port's
+abbrev pub Others : Type 0
+Others = Option (List ℕ) × ℕ × PortTells × ℕ
+
 -- what it tells at first
 abbrev pub told_at_first : List MemoryConnection → PortTells
 told_at_first waiting = record {

@@ -1,4 +1,4 @@
-// Which calls of an object in memory are to fail.
+//! Which calls of an object in memory are to fail.
 ghost use Rattle.std.specs.Prelude.{◌≡◌, []};
 ghost use Rattle.co_link.specs.Calls.{calls_failing, is_to_fail, after_call};
 

@@ -1,4 +1,4 @@
-// A link round another that fails stated calls.
+//! A link round another that fails stated calls.
 ghost use Rattle.std.specs.Prelude.{◌≡◌, ◌≤◌, ◌+◌, ◌-◌, ◌^◌, min, Some, None, [], List, ℕ, true};
 ghost use Rattle.co_link.specs.Calls.{Calls, is_to_fail, after_call};
 ghost use Rattle.co_link.specs.Causes.{Rose};
@@ -93,7 +93,6 @@ impl<K: Link + Drop> Link for FailNth<K> {
 }
 
 impl<K: Dial + Drop> Dial for FailNth<K> {
-    ghost use Rattle.std.specs.Prelude.{ℕ};
     ghost use Rattle.std.proofs.Common.{ap};
     ghost use Rattle.co_link.specs.Dialled.{dialled_last};
 
@@ -115,10 +114,7 @@ impl<K: Dial + Drop> Dial for FailNth<K> {
         ensures passes { is_to_fail self.old.calls ≡ false → result ≡ Err Failed → Rose (K.faults self.old.inner) (K.faults self.new.inner) }
     {
         let fails = self.calls.next_fails();
-        let Ok(kept) = String::from_str(self.alloc, host) else {
-            return Err(LinkFault::OutOfMemory);
-        };
-        self.dials.add(kept, port);
+        self.dials.add(self.alloc, host, port)?;
         if fails {
             self.failures.raise();
             return Err(LinkFault::Failed);

@@ -1,5 +1,11 @@
-// A connection in memory: a source and a sink.
-ghost use Rattle.std.specs.Prelude.{◌≡◌, ◌≤◌};
+//! A connection in memory: a source and a sink.
+ghost use Rattle.std.specs.Prelude.{◌≡◌, ◌≤◌, ◌<◌, Some, length};
+ghost use Rattle.co_link.specs.Causes.{HasCause};
+ghost use Rattle.co_link.specs.Held.{Appends};
+ghost use Rattle.co_link.specs.MemoryConnection.{source_of, sink_of};
+ghost use Rattle.co_link.specs.MemorySink.{sink_bytes, PutsWithinRoom};
+ghost use Rattle.co_link.specs.MemorySource.{source_left, TakesPiece};
+ghost use Rattle.co_link.specs.Taken.{Takes};
 
 use crate::{Duplex, Failed, MemorySink, MemorySource, Sink, Source};
 
@@ -11,8 +17,6 @@ pub struct MemoryConnection {
 }
 
 impl MemoryConnection {
-    ghost use Rattle.co_link.specs.MemoryConnection.{source_of, sink_of};
-
     /// A connection with this input, which puts its output there.
     pub fn new(source: MemorySource, sink: MemorySink) -> Self
         ensures source { source_of result ≡ source }
@@ -30,11 +34,6 @@ impl MemoryConnection {
 }
 
 impl Source for MemoryConnection {
-    ghost use Rattle.std.specs.Prelude.{Some, ◌<◌, length};
-    ghost use Rattle.co_link.specs.Causes.{HasCause};
-    ghost use Rattle.co_link.specs.Taken.{Takes};
-    ghost use Rattle.co_link.specs.MemoryConnection.{source_of, sink_of};
-    ghost use Rattle.co_link.specs.MemorySource.{source_left, TakesPiece};
     ghost use Rattle.co_link.specs.declared.memory_sink.MemorySink.{MemorySink};
 
     ghost left = { λ s. Some (source_left s.source) };
@@ -57,11 +56,6 @@ impl Source for MemoryConnection {
 }
 
 impl Sink for MemoryConnection {
-    ghost use Rattle.std.specs.Prelude.{Some};
-    ghost use Rattle.co_link.specs.Causes.{HasCause};
-    ghost use Rattle.co_link.specs.Held.{Appends};
-    ghost use Rattle.co_link.specs.MemoryConnection.{source_of, sink_of};
-    ghost use Rattle.co_link.specs.MemorySink.{sink_bytes, PutsWithinRoom};
     ghost use Rattle.co_link.specs.declared.memory_source.MemorySource.{MemorySource};
 
     ghost put_so_far = { λ s. Some (sink_bytes s.sink) };

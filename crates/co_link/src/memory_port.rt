@@ -1,4 +1,4 @@
-// A port in memory, with a list of waiting connections.
+//! A port in memory, with a list of waiting connections.
 ghost use Rattle.std.specs.Prelude.{◌≡◌, ◌≤◌, ◌+◌, [], None, Some, vec_len, vec_capacity, ◌++◌, All, IfOk, is_some, if◌then◌else◌};
 ghost use Rattle.std.specs.Option.{option_to_list};
 ghost use Rattle.co_link.specs.Fresh.{IsFresh};
@@ -70,17 +70,15 @@ impl MemoryPort {
 }
 
 impl Source for MemoryPort {
-    ghost use Rattle.std.specs.Prelude.{List, ℕ, Option, Some};
-    ghost use Rattle.co_link.specs.MemoryPort.{port_tells, port_left, port_put};
-    ghost use Rattle.co_link.specs.Ports.{PortTells};
+    ghost use Rattle.co_link.specs.MemoryPort.{Others, told_left, told_put, port_tells};
 
-    ghost left = { λ s. Some (port_left s) };
+    ghost left = { λ s. told_left s };
 
     ghost faults = { λ s. s.take_faults };
 
-    ghost Beside = { Option (List ℕ) × ℕ × PortTells × ℕ };
+    ghost Beside = { Others };
 
-    ghost beside = { λ s. (Some (port_put s), s.put_faults, port_tells s, s.port_faults) };
+    ghost beside = { λ s. (told_put s, s.put_faults, port_tells s, s.port_faults) };
 
     fn take(&mut self, into: &mut [u8]) -> Result<usize, Failed> {
         match &mut self.current {
@@ -97,17 +95,15 @@ impl Source for MemoryPort {
 }
 
 impl Sink for MemoryPort {
-    ghost use Rattle.std.specs.Prelude.{List, ℕ, Option, Some};
-    ghost use Rattle.co_link.specs.MemoryPort.{port_tells, port_left, port_put};
-    ghost use Rattle.co_link.specs.Ports.{PortTells};
+    ghost use Rattle.co_link.specs.MemoryPort.{Others, told_left, told_put, port_tells};
 
-    ghost put_so_far = { λ s. Some (port_put s) };
+    ghost put_so_far = { λ s. told_put s };
 
     ghost faults = { λ s. s.put_faults };
 
-    ghost Beside = { Option (List ℕ) × ℕ × PortTells × ℕ };
+    ghost Beside = { Others };
 
-    ghost beside = { λ s. (Some (port_left s), s.take_faults, port_tells s, s.port_faults) };
+    ghost beside = { λ s. (told_left s, s.take_faults, port_tells s, s.port_faults) };
 
     fn put(&mut self, piece: &[u8]) -> Result<(), Failed> {
         match &mut self.current {

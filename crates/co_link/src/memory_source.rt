@@ -1,5 +1,5 @@
-// A source in memory, which gives its bytes in pieces of a stated size and has a list of calls that
-// are to fail.
+//! A source in memory, which gives its bytes in pieces of a stated size and has a list of calls that
+//! are to fail.
 ghost use Rattle.std.specs.Prelude.{◌≡◌, ◌≤◌, ◌<◌, Some, [], vec_len};
 ghost use Rattle.co_link.specs.Calls.{calls_failing};
 ghost use Rattle.co_link.specs.Causes.{HasCause};
@@ -12,9 +12,9 @@ use std::alloc::Global;
 /// tried.
 #[derive(Drop)]
 pub struct MemorySource {
+    piece: usize,
     input: Vec<u8>,
     at: usize,
-    piece: usize,
     calls: FailingCalls,
     faults: u64,
     ghost place: { at ≤ vec_len input },
@@ -32,9 +32,9 @@ impl MemorySource {
         ensures calls { source_calls result ≡ calls }
     {
         MemorySource {
+            piece,
             input,
             at: 0,
-            piece,
             calls,
             faults: 0,
         }

@@ -1,4 +1,4 @@
-// A link in memory that plays a list of replies. A list says which calls are to fail.
+//! A link in memory that plays a list of replies. A list says which calls are to fail.
 ghost use Rattle.std.specs.Prelude.{◌≡◌, ◌≤◌, ◌+◌, ◌-◌, ◌^◌, min, Some, None, [], List, ℕ, true, refl};
 ghost use Rattle.co_link.specs.Exchanges.{LinkCall, DialCall, Records, Clears, LinkCause, DialCause, DialTells};
 ghost use Rattle.co_link.specs.Dialled.{last_call, dialled_last, dialling_of};
@@ -97,7 +97,6 @@ impl Link for ScriptLink {
 }
 
 impl Dial for ScriptLink {
-    ghost use Rattle.std.specs.Prelude.{ℕ};
     ghost use Rattle.std.proofs.Common.{ap};
     ghost use Rattle.co_link.specs.Dialled.{dialled_last};
 
@@ -118,10 +117,7 @@ impl Dial for ScriptLink {
         ensures fails { FailsExactly Failed OutOfMemory (is_to_fail (script_calls self.old)) result }
     {
         let fails = self.calls.next_fails();
-        let Ok(host) = String::from_str(self.alloc, host) else {
-            return Err(LinkFault::OutOfMemory);
-        };
-        self.dials.add(host, port);
+        self.dials.add(self.alloc, host, port)?;
         if fails {
             self.failures.raise();
             return Err(LinkFault::Failed);

@@ -1,4 +1,4 @@
-// The real files. What they hold isn't told.
+//! The real files. What they hold isn't told.
 ghost use Rattle.std.specs.Prelude.{◌≡◌, ◌≤◌, None, IfOk, length, Err};
 ghost use Rattle.co_link.specs.Causes.{FaultCause};
 ghost use Rattle.co_link.specs.Taken.{ReadsWithin};

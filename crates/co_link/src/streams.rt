@@ -1,90 +1,25 @@
-// The real streams. What they hold isn't told.
+//! The real streams. What they hold isn't told.
 ghost use Rattle.std.specs.Prelude.{◌≡◌, ◌≤◌, None};
 
 use crate::{Duplex, Failed, Sink, Source};
 use std::io;
 
-/// A reader of std as a source. It doesn't tell what it has left.
+/// A stream of std: a reader is a source, a writer is a sink, and one that is both has both
+/// directions of a connection. It tells nothing of content.
 #[derive(Drop)]
-pub struct StdSource<R: io::Read + Drop> {
-    inner: R,
-    faults: u64,
-}
-
-impl<R: io::Read + Drop> StdSource<R> {
-    /// The reader, with no failure so far.
-    pub fn new(inner: R) -> Self {
-        StdSource { inner, faults: 0 }
-    }
-}
-
-impl<R: io::Read + Drop> Source for StdSource<R> {
-    ghost use Rattle.std.specs.Prelude.{None};
-
-    ghost left = { λ s. None };
-
-    ghost faults = { λ s. s.faults };
-
-    ghost Beside = { Unit {0} };
-
-    ghost beside = { λ s. tt };
-
-    fn take(&mut self, into: &mut [u8]) -> Result<usize, Failed> {
-        match self.inner.read(into) {
-            Ok(count) => Ok(count),
-            Err(_) => {
-                self.faults = self.faults.saturating_add(1);
-                Err(Failed)
-            }
-        }
-    }
-}
-
-/// A writer of std as a sink. It doesn't tell what it took.
-#[derive(Drop)]
-pub struct StdSink<W: io::Write + Drop> {
-    inner: W,
-    faults: u64,
-}
-
-impl<W: io::Write + Drop> StdSink<W> {
-    /// The writer, with no failure so far.
-    pub fn new(inner: W) -> Self {
-        StdSink { inner, faults: 0 }
-    }
-}
-
-impl<W: io::Write + Drop> Sink for StdSink<W> {
-    ghost use Rattle.std.specs.Prelude.{None};
-
-    ghost put_so_far = { λ s. None };
-
-    ghost faults = { λ s. s.faults };
-
-    ghost Beside = { Unit {0} };
-
-    ghost beside = { λ s. tt };
-
-    fn put(&mut self, piece: &[u8]) -> Result<(), Failed> {
-        match self.inner.write_all(piece) {
-            Ok(()) => Ok(()),
-            Err(_) => {
-                self.faults = self.faults.saturating_add(1);
-                Err(Failed)
-            }
-        }
-    }
-}
-
-/// A stream of std as both directions of a connection. It tells nothing of content.
-#[derive(Drop)]
-pub struct StdStream<S: io::Read + io::Write + Drop> {
+pub struct StdStream<S: Drop> {
     inner: S,
     take_faults: u64,
     put_faults: u64,
 }
 
-impl<S: io::Read + io::Write + Drop> StdStream<S> {
+/// A reader of std as a source.
+pub type StdSource<R> = StdStream<R>;
+
+/// A writer of std as a sink.
+pub type StdSink<W> = StdStream<W>;
+
+impl<S: Drop> StdStream<S> {
     /// The stream, with no failure so far.
     pub fn new(inner: S) -> Self {
         StdStream {
@@ -95,7 +30,7 @@ impl<S: io::Read + io::Write + Drop> StdStream<S> {
     }
 }
 
-impl<S: io::Read + io::Write + Drop> Source for StdStream<S> {
+impl<S: io::Read + Drop> Source for StdStream<S> {
     ghost use Rattle.std.specs.Prelude.{None, ℕ};
 
     ghost left = { λ s. None };
@@ -117,7 +52,7 @@ impl<S: io::Read + io::Write + Drop> Source for StdStream<S> {
     }
 }
 
-impl<S: io::Read + io::Write + Drop> Sink for StdStream<S> {
+impl<S: io::Write + Drop> Sink for StdStream<S> {
     ghost use Rattle.std.specs.Prelude.{None, ℕ};
 
     ghost put_so_far = { λ s. None };

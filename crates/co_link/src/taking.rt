@@ -1,4 +1,4 @@
-// Taking into a buffer that grows.
+//! Taking into a buffer that grows.
 ghost use Rattle.std.specs.Prelude.{◌≡◌, ◌≤◌, ◌<◌, length, take, vec_len, OnOk};
 ghost use Rattle.co_link.specs.Causes.{HasCause, FaultCause};
 ghost use Rattle.co_link.specs.Taken.{TakesInto, TakesUpTo};

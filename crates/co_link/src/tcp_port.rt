@@ -1,5 +1,7 @@
-// The real port. What its connections hold isn't told.
-ghost use Rattle.std.specs.Prelude.{◌≡◌, ◌≤◌, None};
+//! The real port. What its connections hold isn't told.
+ghost use Rattle.std.specs.Prelude.{◌≡◌, ◌≤◌, ℕ, None};
+ghost use Rattle.co_link.specs.Ports.{PortTells};
+ghost use Rattle.co_link.specs.TcpPort.{calls_told};
 
 use crate::{Duplex, Failed, Port, Sink, Source};
 use std::io::{Read, Write};
@@ -63,10 +65,6 @@ impl<'a, R: Net> TcpPort<'a, R> {
 }
 
 impl<R: Net> Source for TcpPort<'_, R> {
-    ghost use Rattle.std.specs.Prelude.{ℕ, None};
-    ghost use Rattle.co_link.specs.Ports.{PortTells};
-    ghost use Rattle.co_link.specs.TcpPort.{calls_told};
-
     ghost left = { λ s. None };
 
     ghost faults = { λ s. s.take_faults };
@@ -87,10 +85,6 @@ impl<R: Net> Source for TcpPort<'_, R> {
 }
 
 impl<R: Net> Sink for TcpPort<'_, R> {
-    ghost use Rattle.std.specs.Prelude.{ℕ, None};
-    ghost use Rattle.co_link.specs.Ports.{PortTells};
-    ghost use Rattle.co_link.specs.TcpPort.{calls_told};
-
     ghost put_so_far = { λ s. None };
 
     ghost faults = { λ s. s.put_faults };
@@ -111,10 +105,7 @@ impl<R: Net> Sink for TcpPort<'_, R> {
 }
 
 impl<R: Net> Duplex for TcpPort<'_, R> {
-    ghost use Rattle.std.specs.Prelude.{ℕ};
     ghost use Rattle.std.proofs.Common.{ap, refl};
-    ghost use Rattle.co_link.specs.Ports.{PortTells};
-    ghost use Rattle.co_link.specs.TcpPort.{calls_told};
 
     ghost Beside = { PortTells × ℕ };
 

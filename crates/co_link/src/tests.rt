@@ -1,5 +1,5 @@
-// What no clause says: that calls succeed where there is memory, and the adapters over the real
-// system.
+//! What no clause says: that calls succeed where there is memory, and the adapters over the real
+//! system.
 ghost use Rattle.std.specs.Prelude.{◌≡◌, true, OnSome};
 
 use super::*;

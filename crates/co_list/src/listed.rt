@@ -1,4 +1,4 @@
-// Items in a row.
+//! Items in a row.
 ghost use Rattle.std.specs.Prelude.{◌≡◌, ◌≤◌, ◌++◌, ◌↔◌, [], ◌∷◌, length, vec_capacity, IfOk, OnErr, OnOk, IsTrue};
 
 use std::alloc::{AllocError, Global};

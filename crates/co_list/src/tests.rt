@@ -1,4 +1,4 @@
-// That the calls succeed where there is memory, at a type of small items and at one of large.
+//! That the calls succeed where there is memory, at a type of small items and at one of large.
 use super::*;
 use std::test::Fail;
 

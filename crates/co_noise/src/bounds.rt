@@ -1,4 +1,4 @@
-// The noise of each step, as a formula in a shape.
+//! The noise of each step, as a formula in a shape.
 
 ghost use Rattle.std.specs.Prelude.{◌≡◌, ◌<◌, ◌^◌, IsTrue};
 ghost use Rattle.co_math.specs.Parameters.{q};

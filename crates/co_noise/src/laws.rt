@@ -1,4 +1,4 @@
-// Facts of numbers. Each function returns nothing: its contract is the fact.
+//! Facts of numbers. Each function returns nothing: its contract is the fact.
 
 ghost use Rattle.std.specs.Prelude.{◌≡◌};
 ghost use Rattle.co_noise.specs.Limits.{most_documents, most_terms, most_hits, most_rows, most_bins, most_chunks, most_bin};

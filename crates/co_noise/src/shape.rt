@@ -1,4 +1,4 @@
-// The published numbers of a library, and the numbers that follow from them.
+//! The published numbers of a library, and the numbers that follow from them.
 
 ghost use Rattle.std.specs.Prelude.{◌≡◌, ◌≤◌, IsTrue};
 ghost use Rattle.co_noise.specs.Shapes.{numbers, are_in_range, HasRanges, shape_of, keyword_blocks, document_blocks, levels};
@@ -112,11 +112,29 @@ impl Shape {
         self.documents
     }
 
+    /// How many blocks of a degree hold the documents.
+    #[tactic(auto, unfolding(crate::specs::Shapes::document_blocks))]
+    pub fn document_blocks(&self) -> u32
+        ensures { result ≡ document_blocks self.now }
+    {
+        self.documents.div_ceil(self.degree())
+    }
+
     /// How many terms the vocabulary has.
     pub fn terms(&self) -> u32
         ensures { result ≡ self.now.terms }
     {
         self.terms
+    }
+
+    /// How many blocks of half a degree hold the terms, at least one.
+    #[tactic(auto, unfolding(crate::specs::Shapes::keyword_blocks))]
+    pub fn keyword_blocks(&self) -> u32
+        ensures value { result ≡ keyword_blocks self.now }
+        ensures some { 1 ≤ result }
+        ensures few { result ≤ 16384 }
+    {
+        self.terms.div_ceil(self.degree() / 2).max(1)
     }
 
     /// How many hits a search gives at most.
@@ -147,31 +165,6 @@ impl Shape {
         self.bins
     }
 
-    /// How many pieces of twice a degree in bytes a bin has.
-    pub fn chunks(&self) -> u32
-        ensures { result ≡ self.now.chunks }
-    {
-        self.chunks
-    }
-
-    /// How many blocks of half a degree hold the terms, at least one.
-    #[tactic(auto, unfolding(crate::specs::Shapes::keyword_blocks))]
-    pub fn keyword_blocks(&self) -> u32
-        ensures value { result ≡ keyword_blocks self.now }
-        ensures some { 1 ≤ result }
-        ensures few { result ≤ 16384 }
-    {
-        self.terms.div_ceil(self.degree() / 2).max(1)
-    }
-
-    /// How many blocks of a degree hold the documents.
-    #[tactic(auto, unfolding(crate::specs::Shapes::document_blocks))]
-    pub fn document_blocks(&self) -> u32
-        ensures { result ≡ document_blocks self.now }
-    {
-        self.documents.div_ceil(self.degree())
-    }
-
     /// How many times the wider of the two retrievals doubles its query.
     #[tactic(auto, unfolding(crate::specs::Shapes::levels))]
     pub fn levels(&self) -> u32
@@ -180,5 +173,12 @@ impl Shape {
     {
         let _degree = self.degree();
         log2_up(self.rows).max(log2_up(self.bins))
+    }
+
+    /// How many pieces of twice a degree in bytes a bin has.
+    pub fn chunks(&self) -> u32
+        ensures { result ≡ self.now.chunks }
+    {
+        self.chunks
     }
 }

@@ -1,4 +1,4 @@
-// Whether a shape leaves room for its noise.
+//! Whether a shape leaves room for its noise.
 
 ghost use Rattle.std.specs.Prelude.{◌≡◌, ◌<◌, ◌*◌, ◌^◌, Ok, nat_le};
 ghost use Rattle.co_math.specs.Parameters.{q};

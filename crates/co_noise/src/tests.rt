@@ -1,4 +1,4 @@
-// Each public function once, with the numbers of one published row.
+//! Each public function once, with the numbers of one published row.
 
 use crate::{
     Shape, fresh_bound, is_chunk_count, modulus, retrieve_bound, score_bound, switch_bound, test,

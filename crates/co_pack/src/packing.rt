@@ -12,14 +12,15 @@ ghost use Rattle.co_pack.specs.Packing.{IsBinSize, load, IsNext, IsFirstFit, IsP
 ghost use Rattle.co_pack.specs.Rooms.{IsTopped, IsRoom, IsOpened};
 
 use co_list::Listed;
+use co_text::{MAX_DOCUMENTS, MAX_TEXT};
 use std::alloc::{AllocError, Global};
 use std::cmp::Reverse;
 
 /// The most documents that are packed.
-pub const MOST_DOCUMENTS: usize = 65_536;
+pub const MOST_DOCUMENTS: usize = MAX_DOCUMENTS;
 
 /// The bytes of the longest text, and of the greatest bin that is asked for.
-pub const LONGEST_TEXT: u32 = 4_194_304;
+pub const LONGEST_TEXT: u32 = MAX_TEXT as u32;
 
 /// The greatest degree.
 pub const MOST_DEGREE: u32 = 4_096;
@@ -37,6 +38,9 @@ pub struct Place {
     /// How many bytes the text has.
     pub length: u32,
 }
+
+/// How many bytes are free, bin by bin; or a bound on that, block by block.
+type Rooms = Vec<u32>;
 
 /// Document by document, where its text stands.
 pub type Places = Listed<Place>;
@@ -143,7 +147,7 @@ fn first_fit(rooms: &[u32], tops: &mut [u32], need: u32) -> Option<usize>
 }
 
 /// One more bin, all of whose bytes are free.
-fn open(rooms: &mut Vec<u32>, tops: &mut Vec<u32>, size: u32) -> Result<(), AllocError>
+fn open(rooms: &mut Rooms, tops: &mut Rooms, size: u32) -> Result<(), AllocError>
     requires topped { IsTopped rooms.old.items tops.old.items }
     requires few { length rooms.old.items < 2 ^ 20 }
     requires short { length tops.old.items ≤ length rooms.old.items }
@@ -162,12 +166,7 @@ fn open(rooms: &mut Vec<u32>, tops: &mut Vec<u32>, size: u32) -> Result<(), Allo
 }
 
 /// The first bin with room, which is opened where there is none.
-fn room_for(
-    rooms: &mut Vec<u32>,
-    tops: &mut Vec<u32>,
-    size: u32,
-    need: u32,
-) -> Result<usize, AllocError>
+fn room_for(rooms: &mut Rooms, tops: &mut Rooms, size: u32, need: u32) -> Result<usize, AllocError>
     requires topped { IsTopped rooms.old.items tops.old.items }
     requires few { length rooms.old.items < 2 ^ 20 }
     requires short { length tops.old.items ≤ length rooms.old.items }
@@ -189,8 +188,8 @@ fn room_for(
 
 /// The place of the next document.
 fn place_next(
-    rooms: &mut Vec<u32>,
-    tops: &mut Vec<u32>,
+    rooms: &mut Rooms,
+    tops: &mut Rooms,
     size: u32,
     need: u32,
 ) -> Result<Place, AllocError>

@@ -8,7 +8,7 @@ ghost use Rattle.co_pack.specs.Records.{number_at, record_bytes, record_of, is_t
 ghost use Rattle.co_pack.specs.RecordFaults.{IsReadAs};
 
 use crate::packing::Place;
-use co_text::Title;
+use co_text::{MAX_TITLE, Title};
 use std::alloc::Global;
 use thiserror::Error;
 
@@ -19,19 +19,22 @@ pub const RECORD_BYTES: usize = 256;
 pub const TITLE_LENGTH_AT: usize = 16;
 
 /// Where the title stands in a record.
-pub const TITLE_AT: usize = 17;
+pub const TITLE_AT: usize = TITLE_LENGTH_AT + 1;
 
 /// The bytes from there to the end of the record.
-pub const TITLE_ROOM: usize = 239;
+pub const TITLE_ROOM: usize = RECORD_BYTES - TITLE_AT;
 
 /// The most bytes of a title.
-pub const MOST_TITLE: usize = 200;
+pub const MOST_TITLE: usize = MAX_TITLE;
 
 /// What a record says.
 #[derive(Debug, Drop)]
 pub struct Record {
+    /// The document's number.
     pub document: u32,
+    /// Where its text stands in the bins.
     pub place: Place,
+    /// Its title.
     pub title: Title,
 }
 

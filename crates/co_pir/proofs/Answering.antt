@@ -21,9 +21,12 @@ use Rattle.co_switch.proofs.Rising.{raised-zero, raised-up}
 use Rattle.co_crew.specs.Crew.{IsEach}
 use Rattle.co_crew.specs.Sums.{units_total, AreAdded}
 use Rattle.co_crew.proofs.Unit_sums.{units-none, units-snoc, units-append, units-each}
+use Rattle.co_spectra.specs.Sums.{CipherSums, IsCipherSumOf}
 use Rattle.co_pir.specs.Tables.{Table, payload_at}
 use Rattle.co_pir.specs.Replies.{chunk_reply, table_reply}
-use Rattle.co_pir.specs.Units.{pieces, unit_count, rows_of, piece_sum, unit_sum, AreUnitSums, AddsUnit}
+use Rattle.co_spectra.specs.Values.{CipherValues}
+use Rattle.co_pir.specs.Kept.{AreRowValues}
+use Rattle.co_pir.specs.Units.{pieces, unit_count, rows_of, piece_sum, unit_sum, AreUnitSums, AreHeldSums, AddsUnit}
 use Rattle.co_pir.proofs.Gathering.{length-table_reply, table_reply-at}
 use Rattle.co_pir.proofs.Pieces.{chunk_pieces}
 
@@ -56,34 +59,43 @@ none_summed t cs replies d len zeros = record {
     zero_whole : {c : Ciphertext} → c ≡ zero_ciphertext t.degree → IsOfDegree t.degree c
     zero_whole e = subst (IsOfDegree t.degree) (sym e) (subst (IsOfDegree t.degree) (ciphertext_total-zero t.degree (λ j. no_ciphertext)) (ciphertext_total-IsOfDegree t.degree 0 (λ j. no_ciphertext) d))
 
+-- sums of degree n, added
+pub both_whole : (n : ℕ) (before others after : List Ciphertext) → IsDegree n → All (IsOfDegree n) before → AreAdded before others after → All (IsOfDegree n) after
+both_whole n before others after d h added = All-from_get_or (IsOfDegree n) after no_ciphertext (λ a l.
+    let u : a < length before = omega (arith, added.count) in
+    subst (IsOfDegree n) (sym (added.each a u)) (ciphertext_sum-IsOfDegree n (ciphertext_at before a) (ciphertext_at others a) d (h a no_ciphertext u).degree))
+
 -- what two workers have, added
 pub both_summed : (t : Table) (cs : List Ciphertext) (us vs : List ℕ) (before others after : List Ciphertext) → IsDegree t.degree → AreUnitSums t cs us before → AreUnitSums t cs vs others → AreAdded before others after
     → AreUnitSums t cs (us ++ vs) after
 both_summed t cs us vs before others after d h g added = record {
   count = added.count ∙ h.count;
-  whole = All-from_get_or (IsOfDegree t.degree) after no_ciphertext (λ a l.
-      let u : a < length before = omega (arith, added.count) in
-      subst (IsOfDegree t.degree) (sym (added.each a u)) (ciphertext_sum-IsOfDegree t.degree (ciphertext_at before a) (ciphertext_at others a) d (h.whole a no_ciphertext u).degree));
+  whole = both_whole t.degree before others after d h.whole added;
   each = λ chunk l.
       let u : chunk < length before = omega (arith, added.count) in
       let v : chunk < length others = omega (arith, h.count, g.count) in
       added.each chunk u ∙ (λ i. ciphertext_sum (h.each chunk u i) (g.each chunk v i)) ∙ units-append t.degree (unit_sum t cs chunk) us vs;
 }
 
--- the rows of a piece, one after another
+-- no row was added
 module _ (t : Table) (cs : List Ciphertext) (chunk piece : ℕ) (before : Ciphertext) (whole : IsOfDegree t.degree before) where
   pub no_row : before ≡ ciphertext_sum before (piece_sum t cs chunk piece 0)
   unfolding piece_sum
   no_row = sym (ap (ciphertext_sum before) (ciphertext_total-zero t.degree (λ j. plain_product (ciphertext_at cs (piece * 64 + j)) (payload_at t (piece * 64 + j) chunk))) ∙ ciphertext_sum-zero t.degree before whole)
 
-  pub more_rows : (count : ℕ) (now after c : Ciphertext) → now ≡ ciphertext_sum before (piece_sum t cs chunk piece count) → c ≡ ciphertext_at cs (piece * 64 + count)
-      → after ≡ ciphertext_sum now (plain_product c (payload_at t (piece * 64 + count) chunk)) → after ≡ ciphertext_sum before (piece_sum t cs chunk piece (count + 1))
+-- the rows of a piece by their values, one after another
+module _ (t : Table) (cs : List Ciphertext) (chunk piece : ℕ) where
+  pub none_gathered : (n : ℕ) (s : CipherSums) → n ≡ t.degree → IsCipherSumOf (zero_ciphertext n) s → IsCipherSumOf (piece_sum t cs chunk piece 0) s
   unfolding piece_sum
-  more_rows count now after c e f g =
+  none_gathered n s e h =
+      subst (λ (c : Ciphertext). IsCipherSumOf c s) (ap zero_ciphertext e ∙ sym (ciphertext_total-zero t.degree (λ j. plain_product (ciphertext_at cs (piece * 64 + j)) (payload_at t (piece * 64 + j) chunk)))) h
+
+  pub one_gathered : (count : ℕ) (new : CipherSums) → IsCipherSumOf (ciphertext_sum (piece_sum t cs chunk piece count) (plain_product (ciphertext_at cs (piece * 64 + count)) (payload_at t (piece * 64 + count) chunk))) new
+      → IsCipherSumOf (piece_sum t cs chunk piece (count + 1)) new
+  unfolding piece_sum
+  one_gathered count new h =
       let term : ℕ → Ciphertext = λ (j : ℕ). plain_product (ciphertext_at cs (piece * 64 + j)) (payload_at t (piece * 64 + j) chunk) in
-      g ∙ (λ i. ciphertext_sum (e i) (plain_product (f i) (payload_at t (piece * 64 + count) chunk)))
-      ∙ ciphertext_sum-assoc t.degree before (ciphertext_total t.degree count term) (term count) whole.degree (ciphertext_total-degree t.degree count term)
-      ∙ ap (ciphertext_sum before) (ciphertext_total-suc t.degree count term) ∙ ap (λ k. ciphertext_sum before (ciphertext_total t.degree k term)) next
+      subst (λ (c : Ciphertext). IsCipherSumOf c new) (ciphertext_total-suc t.degree count term ∙ ap (λ k. ciphertext_total t.degree k term) next) h
     where
       next : suc count ≡ count + 1
       next = omega arith
@@ -136,6 +148,10 @@ zeros-degree n cs zeros k d l = ap ciphertext_degree (zeros k d l ∙ sym (ciphe
 pub units_fit : (chunks pieces : ℕ) → chunks ≤ 2097152 → pieces ≤ 64 → chunks * pieces ≤ 2 ^ 32
 units_fit chunks pieces few small = let a = mul-le-mul_right pieces few in let b = mul-le-mul_left 2097152 small in omega arith
 
+-- the steps of the expansion alone
+pub expansion_alone : (start most now : ℕ) → now ≡ raised start most → HasRisen start most now
+expansion_alone start most now e = let up = raised-up start most in record { at_least = omega (arith, e, up); at_most = omega (arith, e) }
+
 -- the units take no step beyond those of the expansion
 module _ (start most units expanded now : ℕ) (e : expanded ≡ raised start most) where
   no_cost : raised expanded (sum_below units (λ i. 0)) ≡ raised start most
@@ -149,3 +165,25 @@ module _ (start most units expanded now : ℕ) (e : expanded ≡ raised start mo
 
   pub expansion_risen : HasRisen expanded (sum_below units (λ i. 0)) now → HasRisen start most now
   expansion_risen h = let up = raised-up start most in record { at_least = omega (arith, h.at_least, e, up); at_most = omega (arith, h.at_most, no_cost) }
+
+-- the same of sums for each expansion with the values
+pub none_held : (t : Table) (values : List CipherValues) (replies : List Ciphertext) → IsDegree t.degree → length replies ≡ t.chunks → All (λ c. c ≡ zero_ciphertext t.degree) replies → AreHeldSums t values [] replies
+none_held t values replies d len zeros =
+    let none = none_summed t [] replies d len zeros in
+    record { count = none.count; whole = none.whole; each = λ cs v. none_summed t cs replies d len zeros }
+
+pub both_held : (t : Table) (values : List CipherValues) (us vs : List ℕ) (before others after : List Ciphertext) → IsDegree t.degree → AreHeldSums t values us before → AreHeldSums t values vs others → AreAdded before others after
+    → AreHeldSums t values (us ++ vs) after
+both_held t values us vs before others after d h g added = record {
+  count = added.count ∙ h.count;
+  whole = both_whole t.degree before others after d h.whole added;
+  each = λ cs v. both_summed t cs us vs before others after d (h.each cs v) (g.each cs v) added;
+}
+
+pub unit_held : (t : Table) (values : List CipherValues) (us : List ℕ) (unit : ℕ) (before after : List Ciphertext) → IsDegree t.degree → AreHeldSums t values us before → length after ≡ length before → All (IsOfDegree t.degree) after
+    → ((cs : List Ciphertext) → AreRowValues t.degree t.rows cs values → AddsUnit t cs unit before after) → AreHeldSums t values (us ++ unit ∷ []) after
+unit_held t values us unit before after d h len whole added = record {
+  count = len ∙ h.count;
+  whole = whole;
+  each = λ cs v. unit_added t cs us unit before after d (h.each cs v) (added cs v);
+}

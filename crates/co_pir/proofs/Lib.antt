@@ -14,3 +14,4 @@ pub mod Revealing
 pub mod Retrieved
 pub mod Pieces
 pub mod Answering
+pub mod Keeping

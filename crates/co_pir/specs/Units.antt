@@ -4,6 +4,8 @@ use Rattle.std.specs.Int.{div_ceil}
 use Rattle.co_bfv.specs.Ciphertexts.{Ciphertext, ciphertext_sum, plain_product}
 use Rattle.co_bfv.specs.Totals.{IsOfDegree, ciphertext_at, ciphertext_total}
 use Rattle.co_crew.specs.Sums.{units_total}
+use Rattle.co_spectra.specs.Values.{CipherValues}
+use Rattle.co_pir.specs.Kept.{AreRowValues}
 use Rattle.co_pir.specs.Tables.{Table, payload_at}
 
 -- how many units a chunk has
@@ -32,10 +34,16 @@ pub record AreUnitSums (t : Table) (cs : List Ciphertext) (units : List ℕ) (re
   pub whole : All (IsOfDegree t.degree) replies
   pub each : (chunk : ℕ) → chunk < length replies → ciphertext_at replies chunk ≡ units_total t.degree (unit_sum t cs chunk) units
 
--- a table and the expansion of a query
+-- a table, and the values of the ciphertexts of its rows
 pub record Answered : Type 0 where
   pub table : Table
-  pub expansion : List Ciphertext
+  pub values : List CipherValues
+
+-- a worker's sums, for each expansion with these values
+pub record AreHeldSums (t : Table) (values : List CipherValues) (units : List ℕ) (replies : List Ciphertext) : Type 0 where
+  pub count : length replies ≡ t.chunks
+  pub whole : All (IsOfDegree t.degree) replies
+  pub each : (cs : List Ciphertext) → AreRowValues t.degree t.rows cs values → AreUnitSums t cs units replies
 
 -- a unit was added to the sum of its chunk
 pub record AddsUnit (t : Table) (cs : List Ciphertext) (unit : ℕ) (before after : List Ciphertext) : Type 0 where

@@ -9,6 +9,7 @@
 //! allowed (co_noise), messages over a wire (co_wire).
 #![tactic(auto)]
 
+mod contents;
 mod expansion;
 mod laws;
 mod opening;

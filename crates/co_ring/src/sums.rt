@@ -1,4 +1,4 @@
-// Sums of products of spectra, value by value, that are reduced once.
+//! Sums of products of spectra, value by value, that are reduced once.
 
 ghost use Rattle.std.specs.Prelude.{◌≡◌, ◌<◌, ◌≤◌, ℕ, length, slice_index, IfOk};
 ghost use Rattle.co_ring.specs.Moduli.{value_of};
@@ -30,7 +30,11 @@ impl Model for ProductSum {
 
     ghost Value = { Sums };
 
-    ghost view = { λ s. record { modulus = s.modulus; count = s.count; values = in_order s.levels s.leaves.items } };
+    ghost view = { λ s. record {
+      modulus = s.modulus;
+      count = s.count;
+      values = in_order s.levels s.leaves.items;
+    } };
 
     ghost invariant = { λ s. AreSumLeaves s.modulus s.levels s.count s.leaves.items };
 }

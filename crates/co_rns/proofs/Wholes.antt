@@ -3,6 +3,7 @@ use Rattle.std.proofs.Common.{◌≡◌, ℕ, ◌%◌, ◌/◌, ◌^◌, ◌<◌
 use Rattle.std.proofs.lemmas.List.{ext_get_or}
 use Rattle.std.proofs.Math.Nat.{mod-lt}
 use Rattle.std.proofs.lemmas.Nat.{pow_pos}
+use Rattle.co_math.specs.Residues.{Congruent}
 use Rattle.co_math.specs.Polynomials.{plus, minus, scaled, shifted, product}
 use Rattle.co_math.specs.Coefficients.{coefficients, AreBelow, AreResidues, IsSubstituted, IsDegree}
 use Rattle.co_math.proofs.Residues.{cong-refl, cong-trans, cong-sym, cong-mul, cong_from, residue_small, residue-same}
@@ -19,6 +20,14 @@ use Rattle.co_rns.specs.Residue_pairs.{q, composed, all_composed, AreResiduesOf,
 use Rattle.co_rns.specs.Pairs.{IsPair, IsWhole}
 use Rattle.co_rns.proofs.Composing.{both, composed-first, composed-second, composed-below, composed-residues, length-all_composed, get_or-all_composed, all_composed_are}
 use Rattle.co_math.specs.Parameters.{first_modulus, second_modulus}
+
+-- numbers below m that agree with others modulo m are their residues
+residues_part : (m : ℕ) (xs value : List ℕ) → 0 < m → length xs ≡ length value → ((k : ℕ) → k < length value → get_or xs k 0 < m)
+    → ((k : ℕ) → k < length value → Congruent m (pos (get_or xs k 0)) (pos (get_or value k 0))) → AreResiduesOf m value xs
+residues_part m xs value z len below agree = record {
+  len = len;
+  each = λ k l. sym (residue_small m (get_or xs k 0) (below k l)) ∙ residue-same m (pos (get_or xs k 0)) (pos (get_or value k 0)) z (agree k l) ∙ sym (remainder-is m (get_or value k 0));
+}
 
 -- the value of a pair, and what its parts are to it
 module _ (first second : Polynomial) (p : IsPair first second) (value : List ℕ) (is : all_composed first.coeffs second.coeffs ≡ value) where
@@ -46,40 +55,26 @@ module _ (first second : Polynomial) (p : IsPair first second) (value : List ℕ
   pub value_below : AreBelow q value
   value_below k l = subst (λ (v : ℕ). v < q) (sym (value-at k l)) (composed-below (get_or first.coeffs k 0) (get_or second.coeffs k 0) (p.first_polynomial.below k (omega (arith, first_degree))))
 
+  first_agrees : (k : ℕ) → k < length value → Congruent first_modulus (pos (get_or first.coeffs k 0)) (pos (get_or value k 0))
+  first_agrees k l = cong-sym first_modulus (cong-trans first_modulus (cong_from first_modulus (ap pos (value-at k l))) (composed-first (get_or first.coeffs k 0) (get_or second.coeffs k 0)))
+
   pub first_is : Agree first_modulus (coefficients first.coeffs) (coefficients value)
-  first_is =
-      coefficients_agree first_modulus first.coeffs value (omega (arith, first_degree, positive)) (sym first_degree)
-      (λ k u. cong-sym first_modulus (cong-trans first_modulus (cong_from first_modulus (ap pos (value-at k (omega (arith, first_degree))))) (composed-first (get_or first.coeffs k 0) (get_or second.coeffs k 0))))
+  first_is = coefficients_agree first_modulus first.coeffs value (omega (arith, first_degree, positive)) (sym first_degree) (λ k u. first_agrees k (omega (arith, first_degree)))
+
+  second_agrees : (k : ℕ) → k < length value → Congruent second_modulus (pos (get_or second.coeffs k 0)) (pos (get_or value k 0))
+  second_agrees k l = cong-sym second_modulus (cong-trans second_modulus (cong_from second_modulus (ap pos (value-at k l))) (composed-second (get_or first.coeffs k 0) (get_or second.coeffs k 0)))
 
   pub second_is : Agree second_modulus (coefficients second.coeffs) (coefficients value)
-  second_is =
-      coefficients_agree second_modulus second.coeffs value (omega (arith, second_degree, positive)) (sym second_degree)
-      (λ k u. cong-sym second_modulus (cong-trans second_modulus (cong_from second_modulus (ap pos (value-at k (omega (arith, second_degree))))) (composed-second (get_or first.coeffs k 0) (get_or second.coeffs k 0))))
+  second_is = coefficients_agree second_modulus second.coeffs value (omega (arith, second_degree, positive)) (sym second_degree) (λ k u. second_agrees k (omega (arith, second_degree)))
 
   pub whole : IsWhole value
   whole = record { degree = value_degree; below = value_below }
 
   pub first_residues : AreResiduesOf first_modulus value first.coeffs
-  first_residues = record {
-    len = first_degree;
-    each = λ k l.
-        let b = p.first_polynomial.below k (omega (arith, first_degree)) in
-        sym (residue_small first_modulus (get_or first.coeffs k 0) b)
-        ∙ residue-same first_modulus (pos (get_or first.coeffs k 0)) (pos (get_or value k 0)) (omega arith)
-        (cong-sym first_modulus (cong-trans first_modulus (cong_from first_modulus (ap pos (value-at k l))) (composed-first (get_or first.coeffs k 0) (get_or second.coeffs k 0))))
-        ∙ sym (remainder-is first_modulus (get_or value k 0));
-  }
+  first_residues = residues_part first_modulus first.coeffs value (omega arith) first_degree (λ k l. p.first_polynomial.below k (omega (arith, first_degree))) first_agrees
 
   pub second_residues : AreResiduesOf second_modulus value second.coeffs
-  second_residues = record {
-    len = second_degree;
-    each = λ k l.
-        let b = p.second_polynomial.below k (omega (arith, second_degree)) in
-        sym (residue_small second_modulus (get_or second.coeffs k 0) b)
-        ∙ residue-same second_modulus (pos (get_or second.coeffs k 0)) (pos (get_or value k 0)) (omega arith)
-        (cong-sym second_modulus (cong-trans second_modulus (cong_from second_modulus (ap pos (value-at k l))) (composed-second (get_or first.coeffs k 0) (get_or second.coeffs k 0))))
-        ∙ sym (remainder-is second_modulus (get_or value k 0));
-  }
+  second_residues = residues_part second_modulus second.coeffs value (omega arith) second_degree (λ k l. p.second_polynomial.below k (omega (arith, second_degree))) second_agrees
 
 -- what is done to both parts is done to the whole, where the operation respects congruence
 module _ (n n₁ n₂ : ℕ) (g h : ℤ → ℤ) (m₁ m₂ : Modulus) (a b : Polynomial) (first : m₁ ≡ First) (second : m₂ ≡ Second) (one : n₁ ≡ n) (two : n₂ ≡ n)
@@ -148,11 +143,24 @@ split_of {value} first second p is = record {
   second_part = second_is first second p value is;
 }
 
+pub first_length_of : {v : List ℕ} {a b : Polynomial} → IsSplit v a b → length a.coeffs ≡ length v
+first_length_of s = s.first_length
+
+pub second_length_of : {v : List ℕ} {a b : Polynomial} → IsSplit v a b → length b.coeffs ≡ length v
+second_length_of s = s.second_length
+
 pub one_length : {v w : List ℕ} {a b c d : Polynomial} → IsSplit v a b → IsSplit w c d → length w ≡ length v → length c.coeffs ≡ length a.coeffs
 one_length s r e = r.first_length ∙ e ∙ sym s.first_length
 
 pub one_length_second : {v w : List ℕ} {a b c d : Polynomial} → IsSplit v a b → IsSplit w c d → length w ≡ length v → length d.coeffs ≡ length b.coeffs
 one_length_second s r e = r.second_length ∙ e ∙ sym s.second_length
+
+-- the same of two pairs
+pub first_lengths : {v w : List ℕ} (a b c d : Polynomial) → IsPair a b → all_composed a.coeffs b.coeffs ≡ v → IsPair c d → all_composed c.coeffs d.coeffs ≡ w → length w ≡ length v → length c.coeffs ≡ length a.coeffs
+first_lengths a b c d p i r j e = one_length (split_of a b p i) (split_of c d r j) e
+
+pub second_lengths : {v w : List ℕ} (a b c d : Polynomial) → IsPair a b → all_composed a.coeffs b.coeffs ≡ v → IsPair c d → all_composed c.coeffs d.coeffs ≡ w → length w ≡ length v → length d.coeffs ≡ length b.coeffs
+second_lengths a b c d p i r j e = one_length_second (split_of a b p i) (split_of c d r j) e
 
 -- f, reduced modulo q, kept as two polynomials
 pub record IsResult (n : ℕ) (f : ℤ → ℤ) (a b : Polynomial) : Type 0 where

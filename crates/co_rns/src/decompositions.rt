@@ -1,10 +1,10 @@
-// The digits of a polynomial modulo q, on their way into a transform.
+//! The digits of a polynomial modulo q, on their way into a transform.
 
 ghost use Rattle.std.specs.Prelude.{◌≡◌, ◌<◌, ℕ, List, length, IfOk};
 ghost use Rattle.co_math.specs.Parameters.{digit_base, digit_count};
 ghost use Rattle.co_math.specs.Coefficients.{coefficients};
-ghost use Rattle.co_rns.specs.Residue_pairs.{AreDigits};
 ghost use Rattle.co_rns.specs.Spectra.{IsSpectrumOf, spectrum_degree};
+ghost use Rattle.co_rns.specs.Residue_pairs.{AreDigits};
 
 use crate::pairs::Pair;
 use crate::parts;
@@ -58,7 +58,8 @@ impl Decomposition {
         requires degree { length self.old ≡ tables.now }
         requires into_degree { spectrum_degree into.old ≡ tables.now }
         ensures same { self.new ≡ self.old }
-        ensures values { (digits : List ℕ) → AreDigits digit_base index self.old digits → IsSpectrumOf tables.now (coefficients digits) into.new }
+        ensures values { (digits : List ℕ) → AreDigits digit_base index self.old digits
+            → IsSpectrumOf tables.now (coefficients digits) into.new }
     {
         parts::digits_of(&self.coeffs, index, &mut self.digits);
         small_to_spectrum(tables, &self.digits, into);

@@ -1,7 +1,8 @@
-// Facts of digits and of residues. Each function returns nothing: its contract is the fact.
+//! Facts of digits and of residues. Each function returns nothing: its contract is the fact.
 
 ghost use Rattle.std.specs.Prelude.{◌≡◌, ◌*◌, ◌/◌, ◌%◌, ◌<◌, ◌^◌, ℕ, List, pos};
-ghost use Rattle.co_math.specs.Parameters.{digit_base, digit_count, first_modulus, q, second_modulus};
+ghost use Rattle.co_math.specs.Parameters.{digit_base, digit_count, first_modulus, q};
+ghost use Rattle.co_math.specs.Parameters.{second_modulus};
 ghost use Rattle.co_math.specs.Sums.{total};
 ghost use Rattle.co_math.specs.Coefficients.{AreBelow};
 ghost use Rattle.co_rns.specs.Residue_pairs.{AreResiduesOf};
@@ -13,7 +14,8 @@ use crate::sums::PairSum;
 
 /// The digits of a number below q, times the powers of the base, have the number as their sum.
 pub fn digits()
-    ensures { (x : ℕ) → x < q → total digit_count (λ j. pos (x / digit_base ^ j % digit_base * digit_base ^ j)) ≡ pos x }
+    ensures { (x : ℕ) → x < q
+        → total digit_count (λ j. pos (x / digit_base ^ j % digit_base * digit_base ^ j)) ≡ pos x }
 {}
 
 /// Residues modulo q1 and q2 are those of one polynomial modulo q.

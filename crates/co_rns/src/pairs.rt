@@ -1,7 +1,8 @@
-// Polynomials modulo q.
+//! Polynomials modulo q.
 
 ghost use Rattle.std.specs.Prelude.{◌≡◌, ◌*◌, ◌<◌, ◌%◌, length, slice_index, pos, IfOk};
-ghost use Rattle.co_math.specs.Parameters.{first_modulus, second_modulus, digit_base, digit_count, q};
+ghost use Rattle.co_math.specs.Parameters.{first_modulus, second_modulus, digit_base, digit_count};
+ghost use Rattle.co_math.specs.Parameters.{q};
 ghost use Rattle.co_math.specs.Polynomials.{plus, minus, scaled, shifted, product};
 ghost use Rattle.co_math.specs.Coefficients.{coefficients, AreBelow, AreResidues, IsSubstituted};
 ghost use Rattle.co_ring.specs.Polynomials.{degree_of};
@@ -58,7 +59,8 @@ impl Pair {
     /// A polynomial modulo t with its centred coefficients, those of least absolute value.
     pub fn centred(alloc: Global, plain: &Poly) -> Result<Pair, AllocError>
         requires { plain.now.modulus ≡ Modulus.Plain }
-        ensures { IfOk result (AreResidues q (degree_of plain.now) (centred_coefficients plain.now.coeffs)) }
+        ensures { IfOk result (AreResidues q (degree_of plain.now)
+            (centred_coefficients plain.now.coeffs)) }
     {
         Ok(Pair {
             first: parts::centred(alloc, plain, Modulus::First)?,
@@ -132,7 +134,8 @@ impl Pair {
     /// Adds another polynomial.
     pub fn add_in(&mut self, other: &Pair)
         requires { length other.now ≡ length self.old }
-        ensures { AreResidues q (length self.old) (plus (coefficients self.old) (coefficients other.now)) self.new }
+        ensures { AreResidues q (length self.old)
+            (plus (coefficients self.old) (coefficients other.now)) self.new }
     {
         self.first.add_in(&other.first);
         self.second.add_in(&other.second);
@@ -141,7 +144,8 @@ impl Pair {
     /// Subtracts another polynomial.
     pub fn sub_in(&mut self, other: &Pair)
         requires { length other.now ≡ length self.old }
-        ensures { AreResidues q (length self.old) (minus (coefficients self.old) (coefficients other.now)) self.new }
+        ensures { AreResidues q (length self.old)
+            (minus (coefficients self.old) (coefficients other.now)) self.new }
     {
         self.first.sub_in(&other.first);
         self.second.sub_in(&other.second);
@@ -149,7 +153,8 @@ impl Pair {
 
     /// Times a number, which need not be below q.
     pub fn scale(&mut self, factor: u64)
-        ensures { AreResidues q (length self.old) (scaled (pos factor) (coefficients self.old)) self.new }
+        ensures { AreResidues q (length self.old)
+            (scaled (pos factor) (coefficients self.old)) self.new }
     {
         self.first.scale(factor);
         self.second.scale(factor);
@@ -170,7 +175,8 @@ impl Pair {
     pub fn monomial_mul(&self, exponent: u32, into: &mut Pair)
         requires within { exponent < 2 * length self.now }
         requires one_degree { length into.old ≡ length self.now }
-        ensures { AreResidues q (length self.now) (shifted exponent (coefficients self.now)) into.new }
+        ensures { AreResidues q (length self.now)
+            (shifted exponent (coefficients self.now)) into.new }
     {
         self.first.monomial_mul(exponent, &mut into.first);
         self.second.monomial_mul(exponent, &mut into.second);
@@ -179,7 +185,8 @@ impl Pair {
     /// The negacyclic product: X^n is -1. It makes the tables of its transforms anew.
     pub fn mul(&self, alloc: Global, other: &Pair) -> Result<Pair, AllocError>
         requires { length other.now ≡ length self.now }
-        ensures { IfOk result (AreResidues q (length self.now) (product (length self.now) (coefficients self.now) (coefficients other.now))) }
+        ensures { IfOk result (AreResidues q (length self.now)
+            (product (length self.now) (coefficients self.now) (coefficients other.now))) }
     {
         Ok(Pair {
             first: self.first.mul(alloc, &other.first)?,
@@ -191,7 +198,9 @@ impl Pair {
     pub fn mul_plain(&self, alloc: Global, plain: &Poly) -> Result<Pair, AllocError>
         requires plain_modulus { plain.now.modulus ≡ Modulus.Plain }
         requires one_degree { degree_of plain.now ≡ length self.now }
-        ensures { IfOk result (AreResidues q (length self.now) (product (length self.now) (coefficients self.now) (centred_coefficients plain.now.coeffs))) }
+        ensures { IfOk result (AreResidues q (length self.now)
+            (product (length self.now) (coefficients self.now)
+            (centred_coefficients plain.now.coeffs))) }
     {
         let first = parts::centred(alloc, plain, Modulus::First)?;
         let second = parts::centred(alloc, plain, Modulus::Second)?;

@@ -1,12 +1,15 @@
-// Coefficients modulo q, from and to their residues.
+//! Coefficients modulo q, from and to their residues.
 
-ghost use Rattle.std.specs.Prelude.{◌≡◌, ◌+◌, ◌*◌, ◌/◌, ◌<◌, ◌%◌, ◌^◌, length, slice_index, pos, IfOk};
-ghost use Rattle.co_math.specs.Parameters.{first_modulus, second_modulus, plain_modulus, digit_base, digit_count, q};
+ghost use Rattle.std.specs.Prelude.{◌≡◌, ◌+◌, ◌*◌, ◌/◌, ◌<◌, ◌%◌, ◌^◌, length, slice_index, pos};
+ghost use Rattle.std.specs.Prelude.{IfOk};
+ghost use Rattle.co_math.specs.Parameters.{first_modulus, second_modulus, plain_modulus};
+ghost use Rattle.co_math.specs.Parameters.{digit_base, digit_count, q};
 ghost use Rattle.co_math.specs.Residues.{residue};
 ghost use Rattle.co_math.specs.Meanings.{centred as centred_of};
 ghost use Rattle.co_ring.specs.Moduli.{value_of};
 ghost use Rattle.co_ring.specs.Polynomials.{degree_of, IsPoly};
-ghost use Rattle.co_rns.specs.Residue_pairs.{composed, all_composed, AreResiduesOf, AreDigits, centred_coefficients};
+ghost use Rattle.co_rns.specs.Residue_pairs.{composed, all_composed, AreResiduesOf, AreDigits};
+ghost use Rattle.co_rns.specs.Residue_pairs.{centred_coefficients};
 
 use co_math::parameters::{
     DIGIT_BASE, DIGIT_BITS, FIRST_MODULUS, INVERSE_OF_FIRST, PLAIN_MODULUS, SECOND_MODULUS,
@@ -97,8 +100,10 @@ pub fn write_digits(
     requires into_second_degree { degree_of into_second.old ≡ degree_of first.now }
     ensures first_modulus_after { into_first.new.modulus ≡ Modulus.First }
     ensures second_modulus_after { into_second.new.modulus ≡ Modulus.Second }
-    ensures first_digits { AreDigits digit_base index (all_composed first.now.coeffs second.now.coeffs) into_first.new.coeffs }
-    ensures second_digits { AreDigits digit_base index (all_composed first.now.coeffs second.now.coeffs) into_second.new.coeffs }
+    ensures first_digits { AreDigits digit_base index
+        (all_composed first.now.coeffs second.now.coeffs) into_first.new.coeffs }
+    ensures second_digits { AreDigits digit_base index
+        (all_composed first.now.coeffs second.now.coeffs) into_second.new.coeffs }
 {
     for k in 0..first.degree() {
         let digit = digit_of(compose_at(first, second, k), index);
@@ -147,7 +152,8 @@ pub fn centre(value: u64, m: u64) -> u64
 /// A polynomial modulo t with its centred coefficients, modulo m.
 pub fn centred(alloc: Global, plain: &Poly, modulus: Modulus) -> Result<Poly, AllocError>
     requires { plain.now.modulus ≡ Modulus.Plain }
-    ensures { IfOk result (IsPoly modulus (degree_of plain.now) (centred_coefficients plain.now.coeffs)) }
+    ensures { IfOk result (IsPoly modulus (degree_of plain.now)
+        (centred_coefficients plain.now.coeffs)) }
 {
     let n = plain.degree();
     let m = modulus.value();

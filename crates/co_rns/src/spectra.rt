@@ -1,4 +1,4 @@
-// The values of polynomials modulo q at the roots of -1, and transforms between both.
+//! The values of polynomials modulo q at the roots of -1, and transforms between both.
 
 ghost use Rattle.std.specs.Prelude.{◌≡◌, ℕ, ℤ, length, pos, IfOk};
 ghost use Rattle.co_math.specs.Parameters.{first_modulus, q};
@@ -124,7 +124,8 @@ pub fn from_spectrum(tables: &Tables, values: &PairSpectrum, into: &mut Pair)
     requires into_degree { length into.old ≡ tables.now }
     ensures degree { length into.new ≡ tables.now }
     ensures values { IsSpectrumOf tables.now (coefficients into.new) values.now }
-    ensures back { (f : ℤ → ℤ) → IsSpectrumOf tables.now f values.now → AreResidues q tables.now f into.new }
+    ensures back { (f : ℤ → ℤ) → IsSpectrumOf tables.now f values.now
+        → AreResidues q tables.now f into.new }
 {
     inverse(&tables.first, &values.first, &mut into.first);
     inverse(&tables.second, &values.second, &mut into.second);

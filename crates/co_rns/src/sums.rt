@@ -1,4 +1,4 @@
-// Sums of products of polynomials modulo q, by their values, that are reduced once.
+//! Sums of products of polynomials modulo q, by their values, that are reduced once.
 
 ghost use Rattle.std.specs.Prelude.{◌≡◌, ◌<◌, length, IfOk};
 ghost use Rattle.co_ring.specs.Product_sums.{most_products};
@@ -21,7 +21,8 @@ impl Model for PairSum {
 
     ghost Value = { PairSums };
 
-    ghost view = { λ s. record { count = s.first.count; first = s.first.values; second = s.second.values } };
+    ghost view = { λ s.
+        record { count = s.first.count; first = s.first.values; second = s.second.values } };
 
     ghost invariant = { λ s. IsPairSum s.first s.second };
 }

@@ -7,7 +7,8 @@ ghost use Rattle.co_switch.specs.Steps.{raised, HasRisen};
 ghost use Rattle.co_switch.specs.Switches.{switched};
 ghost use Rattle.co_rot.specs.Bits.{lowest_bit as lowest_bit_of};
 ghost use Rattle.co_rot.specs.Rotations.{rotation};
-ghost use Rattle.co_rot.specs.Subtrees.{crown_bits, subtree_bits, crown_of, IsRoot, HasVisited, IsSubtree};
+ghost use Rattle.co_rot.specs.Subtrees.{crown_bits, subtree_bits, crown_of, IsRoot, HasVisited};
+ghost use Rattle.co_rot.specs.Subtrees.{IsSubtree};
 
 use crate::parents::{lowest_bit, parent};
 use crate::visitor::Visitor;
@@ -26,7 +27,8 @@ fn turn<L>(
     requires turned { 1 ≤ i }
     requires within { i < 2 ^ length keys.now.rotations }
     requires one_degree { ciphertext_degree from.now ≡ keys_degree keys.now }
-    ensures value { IfOk result (λ r. r ≡ switched (rotation_key keys.now (lowest_bit_of i)) from.now) }
+    ensures value { IfOk result (λ r.
+        r ≡ switched (rotation_key keys.now (lowest_bit_of i)) from.now) }
     ensures degree { IfOk result (λ r. ciphertext_degree r ≡ keys_degree keys.now) }
     ensures step { OnOk result (steps.new ≡ raised steps.old 1) }
     ensures no_step { OnErr result (steps.new ≡ steps.old) }
@@ -70,7 +72,8 @@ pub fn crown<L>(
 ) -> Result<Vec<Cipher>, AllocError>
     requires { ciphertext_degree query.now ≡ keys_degree keys.now }
     ensures value { IfOk result (λ roots. roots.items ≡ crown_of keys.now query.now) }
-    ensures one_degree { IfOk result (λ roots. All (λ c. ciphertext_degree c ≡ keys_degree keys.now) roots.items) }
+    ensures one_degree { IfOk result (λ roots.
+        All (λ c. ciphertext_degree c ≡ keys_degree keys.now) roots.items) }
     ensures steps { OnOk result (steps.new ≡ raised steps.old (2 ^ crown_bits keys.now - 1)) }
     ensures rise { HasRisen steps.old (2 ^ crown_bits keys.now - 1) steps.new }
 {
@@ -101,7 +104,8 @@ fn walk<V: Visitor, L>(
     requires cipher_degree { ciphertext_degree cipher.now ≡ keys_degree keys.now }
     requires visitor_degree { V.degree visitor.old ≡ keys_degree keys.now }
     ensures visits { (query : Ciphertext) → cipher.now ≡ rotation keys.now query number
-        → OnOk result (HasVisited V.visits (rotation keys.now query) number (2 ^ level) visitor.old visitor.new) }
+        → OnOk result
+        (HasVisited V.visits (rotation keys.now query) number (2 ^ level) visitor.old visitor.new) }
     ensures degree { OnOk result (V.degree visitor.new ≡ V.degree visitor.old) }
     ensures steps { OnOk result (steps.new ≡ raised steps.old (2 ^ level - 1)) }
     ensures rise { HasRisen steps.old (2 ^ level - 1) steps.new }
@@ -131,7 +135,9 @@ pub fn walk_subtree<V: Visitor, L>(
     requires cipher_degree { ciphertext_degree cipher.now ≡ keys_degree keys.now }
     requires visitor_degree { V.degree visitor.old ≡ keys_degree keys.now }
     ensures visits { (query : Ciphertext) → cipher.now ≡ rotation keys.now query root
-        → OnOk result (HasVisited V.visits (rotation keys.now query) root (2 ^ subtree_bits keys.now) visitor.old visitor.new) }
+        → OnOk result
+        (HasVisited V.visits (rotation keys.now query) root (2 ^ subtree_bits keys.now)
+        visitor.old visitor.new) }
     ensures degree { OnOk result (V.degree visitor.new ≡ V.degree visitor.old) }
     ensures steps { OnOk result (steps.new ≡ raised steps.old (2 ^ subtree_bits keys.now - 1)) }
     ensures rise { HasRisen steps.old (2 ^ subtree_bits keys.now - 1) steps.new }

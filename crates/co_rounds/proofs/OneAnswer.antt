@@ -1,5 +1,5 @@
 -- A request has one answer under the keys that are held, but for want of memory.
-use Rattle.std.proofs.Common.{◌≡◌, ◌≢◌, ◌⊎◌, ℕ, ◌*◌, ◌<◌, ◌≤◌, refl, sym, ap, subst, ◌∙◌, arith, inl, inr, List, [], ◌∷◌, length, Option, Some, None}
+use Rattle.std.proofs.Common.{◌≡◌, ◌≢◌, ◌⊎◌, ℕ, ◌*◌, refl, sym, ap, subst, ◌∙◌, arith, inl, inr, List, [], ◌∷◌, length, Option, Some, None}
 use Rattle.std.proofs.lemmas.Bool.{cases_order}
 use Rattle.co_link.specs.declared.messages.Target.{Target}
 use Rattle.co_link.specs.declared.messages.Target.TheVariants.{Public, Keys as ForKeys, Score, Meta, Document}
@@ -18,7 +18,7 @@ use Rattle.co_matvec.proofs.Only.{replies_only}
 use Rattle.co_pir.specs.Replies.{retrieved}
 use Rattle.co_wire.specs.declared.fault.WireFault.{WireFault}
 use Rattle.co_wire.specs.declared.fault.WireFault.TheVariants.{Length as WrongLength, Range as WrongRange, Public as WrongPublic, OutOfMemory as NoMemory}
-use Rattle.co_wire.specs.Bodies.{IsFirstOutOfRange, ciphers_bytes, modulus_at, residue_at}
+use Rattle.co_wire.specs.Bodies.{IsFirstOutOfRange, ciphers_bytes}
 use Rattle.co_wire.specs.BadBodies.{IsBadBody}
 use Rattle.co_wire.specs.Lengths.{request_size}
 use Rattle.co_wire.proofs.One_value.{one-list, one-key-set}
@@ -132,27 +132,27 @@ done_one l d (Some keys) Document body r s a b =
 
 pub one-answer : (l : Parts) → IsLibrary l → (held : Option Keys) (r : Request) (a b : Answer) → a ≢ OutOfMemory → b ≢ OutOfMemory → IsAnswer l held r a → IsAnswer l held r b → a ≡ b
 unfolding IsServed
-one-answer l h held r OutOfMemory b no nor x y = absurd (no refl)
-one-answer l h held r (Length w f) OutOfMemory no nor x y = absurd (nor refl)
-one-answer l h held r NoKeys OutOfMemory no nor x y = absurd (nor refl)
-one-answer l h held r (Range p) OutOfMemory no nor x y = absurd (nor refl)
-one-answer l h held r (Done s) OutOfMemory no nor x y = absurd (nor refl)
-one-answer l h held r (Length w f) (Length v g) no nor x y = (λ t. Length ((x.0 ∙ sym y.0) t) ((x.1 ∙ sym y.1) t))
-one-answer l h held r (Length w f) NoKeys no nor x y = absurd (x.2 (x.1 ∙ y.0 ∙ sym x.0))
-one-answer l h held r (Length w f) (Range p) no nor x y = absurd (x.2 (x.1 ∙ y.0 ∙ sym x.0))
-one-answer l h held r (Length w f) (Done s) no nor x y = absurd (good_served l held r (Length w f) x (done_good l held r.target r.body s y))
-one-answer l h held r NoKeys (Length w f) no nor x y = absurd (y.2 (y.1 ∙ x.0 ∙ sym y.0))
-one-answer l h held r NoKeys NoKeys no nor x y = refl
-one-answer l h held r NoKeys (Range p) no nor x y = absurd (y.1 x.1)
-one-answer l h held r NoKeys (Done s) no nor x y = absurd (good_served l held r NoKeys x (done_good l held r.target r.body s y))
-one-answer l h held r (Range p) (Length w f) no nor x y = absurd (y.2 (y.1 ∙ x.0 ∙ sym y.0))
-one-answer l h held r (Range p) NoKeys no nor x y = absurd (x.1 y.1)
-one-answer l h held r (Range p) (Range o) no nor x y = ap Range (first_one r.body p o x.2 y.2)
-one-answer l h held r (Range p) (Done s) no nor x y = absurd (good_served l held r (Range p) x (done_good l held r.target r.body s y))
-one-answer l h held r (Done s) (Length w f) no nor x y = absurd (good_served l held r (Length w f) y (done_good l held r.target r.body s x))
-one-answer l h held r (Done s) NoKeys no nor x y = absurd (good_served l held r NoKeys y (done_good l held r.target r.body s x))
-one-answer l h held r (Done s) (Range p) no nor x y = absurd (good_served l held r (Range p) y (done_good l held r.target r.body s x))
-one-answer l h held r (Done s) (Done u) no nor x y = ap Done (done_one l (ranges l.shape h.published.good.ranges).degree held r.target r.body s u x y)
+one-answer l h held r OutOfMemory b some other x y = absurd (some refl)
+one-answer l h held r (Length w f) OutOfMemory some other x y = absurd (other refl)
+one-answer l h held r NoKeys OutOfMemory some other x y = absurd (other refl)
+one-answer l h held r (Range p) OutOfMemory some other x y = absurd (other refl)
+one-answer l h held r (Done s) OutOfMemory some other x y = absurd (other refl)
+one-answer l h held r (Length w f) (Length v g) some other x y = (λ t. Length ((x.0 ∙ sym y.0) t) ((x.1 ∙ sym y.1) t))
+one-answer l h held r (Length w f) NoKeys some other x y = absurd (x.2 (x.1 ∙ y.0 ∙ sym x.0))
+one-answer l h held r (Length w f) (Range p) some other x y = absurd (x.2 (x.1 ∙ y.0 ∙ sym x.0))
+one-answer l h held r (Length w f) (Done s) some other x y = absurd (good_served l held r (Length w f) x (done_good l held r.target r.body s y))
+one-answer l h held r NoKeys (Length w f) some other x y = absurd (y.2 (y.1 ∙ x.0 ∙ sym y.0))
+one-answer l h held r NoKeys NoKeys some other x y = refl
+one-answer l h held r NoKeys (Range p) some other x y = absurd (y.1 x.1)
+one-answer l h held r NoKeys (Done s) some other x y = absurd (good_served l held r NoKeys x (done_good l held r.target r.body s y))
+one-answer l h held r (Range p) (Length w f) some other x y = absurd (y.2 (y.1 ∙ x.0 ∙ sym y.0))
+one-answer l h held r (Range p) NoKeys some other x y = absurd (x.1 y.1)
+one-answer l h held r (Range p) (Range o) some other x y = ap Range (first_one r.body p o x.2 y.2)
+one-answer l h held r (Range p) (Done s) some other x y = absurd (good_served l held r (Range p) x (done_good l held r.target r.body s y))
+one-answer l h held r (Done s) (Length w f) some other x y = absurd (good_served l held r (Length w f) y (done_good l held r.target r.body s x))
+one-answer l h held r (Done s) NoKeys some other x y = absurd (good_served l held r NoKeys y (done_good l held r.target r.body s x))
+one-answer l h held r (Done s) (Range p) some other x y = absurd (good_served l held r (Range p) y (done_good l held r.target r.body s x))
+one-answer l h held r (Done s) (Done u) some other x y = ap Done (done_one l (ranges l.shape h.published.good.ranges).degree held r.target r.body s u x y)
 
 -- ---- held keys
 

@@ -6,7 +6,7 @@ use Rattle.std.specs.Option.{unwrap_or}
 use Rattle.std.proofs.lemmas.Bool.{eqb-true, ltb-false}
 use Rattle.std.proofs.lemmas.Bool.Decides.{nat_tests}
 use Rattle.std.proofs.lemmas.Option.{slice_get_within, get_or_from_slice_get, slice_get-get_or}
-use Rattle.std.proofs.lemmas.List.{length-map, get_or-map, take_at, drop_at, drop-drop, take-take, drop-take, length-take, length-drop, append_assoc}
+use Rattle.std.proofs.lemmas.List.{length-map, get_or-map, take_at, drop_at, drop-drop, take-take, drop-take, length-take, length-drop}
 use Rattle.std.proofs.lemmas.List.Elements.{All-filter}
 use Rattle.std.proofs.lemmas.List.FromFn.{length-range_with_len, get_or-range_with_len, length-map-range_with_len}
 use Rattle.std.proofs.lemmas.List.Quantifiers.{position-Some}
@@ -18,12 +18,11 @@ use Rattle.co_noise.specs.Shapes.{Numbers, HasRanges}
 use Rattle.co_noise.proofs.Ranges.{ranges}
 use Rattle.co_bucket.specs.Lists.{bucket_count, candidates_of, listed, lists_of, may_stand}
 use Rattle.co_bucket.specs.Rows.{records_a_row, rows_of}
-use Rattle.co_bucket.specs.Bytes.{AreHeld, row_size, record_chunks, bucket_bytes, row_of}
+use Rattle.co_bucket.specs.Bytes.{AreHeld, bucket_bytes}
 use Rattle.co_bucket.proofs.Standing.{members, list_at, fewest_rows, row_within, there, chunks}
 use Rattle.co_corpus.specs.declared.documents.Document.{Document}
 use Rattle.co_text.specs.Titles.{IsTitle}
 use Rattle.co_pack.specs.declared.packing.Place.{Place}
-use Rattle.co_pack.specs.declared.records.Record.{Record}
 use Rattle.co_pack.specs.Packing.{place_at}
 use Rattle.co_pack.specs.Records.{record_bytes, record_of}
 use Rattle.co_pack.proofs.Spelling.{length-record_bytes, spelled_record}
@@ -32,9 +31,9 @@ use Rattle.co_pir.specs.Tables.{piece, row_bytes}
 use Rattle.co_library.specs.declared.settings.Settings.{Settings}
 use Rattle.co_library.specs.Libraries.{Parts, IsLibrary}
 use Rattle.co_library.specs.Publishing.{records_from, texts_of, start_of, IsLibraryOf}
-use Rattle.co_rounds.specs.Serving.{record_at, bucket_documents, bucket_table, bin_table}
+use Rattle.co_rounds.specs.Serving.{record_at, bucket_documents, bucket_table}
 use Rattle.co_rounds.specs.Placing.{place_in_bucket, document_row, document_start}
-use Rattle.co_rounds.specs.Recording.{IsLibraryFor, ShowsDocument, is_within_bins}
+use Rattle.co_rounds.specs.Recording.{IsLibraryFor, ShowsDocument}
 
 abbrev nil : Document
 nil = record { title = []; text = [] }

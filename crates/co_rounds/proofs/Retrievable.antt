@@ -1,7 +1,7 @@
 -- What a client opens of a bucket or of the bins is the row that it asked.
-use Rattle.std.proofs.Common.{◌≡◌, ℕ, zero, suc, ◌+◌, ◌-◌, ◌*◌, ◌/◌, ◌%◌, ◌<◌, ◌≤◌, Bool, true, false, cond, eqb, refl, sym, ap, subst, ◌∙◌, arith, ℤ, List, [], ◌∷◌, ◌++◌, length, get_or, take, drop, replicate, All}
+use Rattle.std.proofs.Common.{◌≡◌, ℕ, zero, suc, ◌+◌, ◌-◌, ◌*◌, ◌/◌, ◌%◌, ◌<◌, ◌≤◌, Bool, true, false, cond, eqb, refl, sym, ap, subst, ◌∙◌, arith, ℤ, List, [], ◌∷◌, length, get_or, take, drop, replicate, All}
 use Rattle.std.specs.List.{flat_map, range_with_len}
-use Rattle.std.proofs.lemmas.List.{length-append, length-replicate, get_or-replicate, take_at, drop_at, drop-drop, append-nil, append_assoc}
+use Rattle.std.proofs.lemmas.List.{length-replicate, get_or-replicate, take_at, drop_at, drop-drop}
 use Rattle.std.proofs.lemmas.List.Concat.{flat_map-cons}
 use Rattle.std.proofs.lemmas.List.Elements.{All-head, All-tail}
 use Rattle.std.proofs.lemmas.List.FromFn.{length-range_with_len, get_or-range_with_len, length-map-range_with_len, get_or-map-range_with_len}
@@ -14,7 +14,7 @@ use Rattle.co_noise.specs.Shapes.{HasRanges, levels}
 use Rattle.co_noise.specs.Bounds.{HasRoom, retrieve_bound}
 use Rattle.co_noise.proofs.Ranges.{ranges}
 use Rattle.co_bucket.specs.Lists.{bucket_count}
-use Rattle.co_bucket.specs.Bytes.{AreHeld, row_size, record_chunks, bucket_bytes}
+use Rattle.co_bucket.specs.Bytes.{row_size, record_chunks, bucket_bytes}
 use Rattle.co_bucket.proofs.Standing.{long, chunks}
 use Rattle.co_slots.specs.Payloads.{IsPayload}
 use Rattle.co_slots.proofs.Spelling.{payload-bytes_unique}

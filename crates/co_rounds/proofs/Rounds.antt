@@ -1,5 +1,5 @@
 -- What a client reads from honest replies, round by round.
-use Rattle.std.proofs.Common.{◌≡◌, ℕ, zero, suc, ◌+◌, ◌*◌, ◌<◌, ◌≤◌, refl, sym, ap, subst, ◌∙◌, arith, ℤ, List, [], ◌∷◌, ◌++◌, length, get_or, All, Option, Some, None, Ok}
+use Rattle.std.proofs.Common.{◌≡◌, ℕ, suc, ◌+◌, ◌*◌, ◌<◌, ◌≤◌, refl, sym, ap, subst, ◌∙◌, arith, ℤ, List, [], ◌∷◌, ◌++◌, length, take, drop, All, Option, Some, None, Ok}
 use Rattle.std.specs.List.{flat_map, range_with_len}
 use Rattle.std.proofs.lemmas.List.{length-append}
 use Rattle.std.proofs.lemmas.List.Concat.{flat_map-cons}
@@ -19,7 +19,7 @@ use Rattle.co_bucket.specs.Bytes.{record_chunks}
 use Rattle.co_slots.specs.Payloads.{IsPayload}
 use Rattle.co_bfv.specs.Secrets.{IsSecret}
 use Rattle.co_bfv.specs.Ciphertexts.{Ciphertext, IsCiphertext, ciphertext_degree}
-use Rattle.co_bfv.specs.Totals.{no_ciphertext, ciphertext_at, ciphertext_total, IsOfDegree}
+use Rattle.co_bfv.specs.Totals.{no_ciphertext, ciphertext_at, IsOfDegree}
 use Rattle.co_bfv.proofs.Totals.{ciphertext_total-IsOfDegree}
 use Rattle.co_switch.specs.Keys.{Keys, AreGoodKeys}
 use Rattle.co_matvec.specs.Weights.{WeightMatrix, keyword_blocks as keyword_blocks_in, document_blocks}
@@ -30,6 +30,7 @@ use Rattle.co_pir.specs.Expansions.{expanded}
 use Rattle.co_pir.specs.Openings.{opened_reply}
 use Rattle.co_pir.proofs.Gathering.{table_reply-at, table_reply-degrees, length-table_reply}
 use Rattle.co_corpus.specs.declared.documents.Document.{Document}
+use Rattle.co_pack.specs.Records.{record_of}
 use Rattle.co_text.specs.Terms.{distinct}
 use Rattle.co_text.specs.Numbers.{numbers_of as keywords_of}
 use Rattle.co_tfidf.specs.Scores.{scores}
@@ -45,12 +46,13 @@ use Rattle.co_library.specs.Refusals.{IsBuilt}
 use Rattle.co_rounds.specs.Serving.{weights_of, gathered, bucket_table, bin_table}
 use Rattle.co_rounds.specs.Answers.{Spells, IsAnswer, IsDone, IsScored, IsGathered, IsFetched, reply_of, reply_with}
 use Rattle.co_rounds.specs.Honest.{IsHonest, AreHeld}
+use Rattle.co_rounds.specs.Placing.{document_row, document_start}
 use Rattle.co_rounds.specs.Scoring.{AskScores, scores_read}
-use Rattle.co_rounds.specs.Recording.{CanBeOpened, AsksFor, bucket_replies}
+use Rattle.co_rounds.specs.Recording.{ShowsDocument, CanBeOpened, AsksFor, bytes_of, bucket_replies}
 use Rattle.co_rounds.specs.declared.answer.Answer.{Answer}
 use Rattle.co_rounds.specs.declared.answer.Answer.TheVariants.{Done, Length, NoKeys, Range, OutOfMemory}
 use Rattle.co_rounds.proofs.Scored.{scores_plain}
-use Rattle.co_rounds.proofs.Retrievable.{bucket_opened, bin_opened}
+use Rattle.co_rounds.proofs.Retrievable.{bytes_read, bucket_opened, bin_opened}
 
 -- ---- replies are ciphertexts
 
@@ -63,7 +65,7 @@ pub scores-ciphers : (l : Parts) (keys : Keys) (queries replies : List Ciphertex
 unfolding document_blocks document_blocks_of
 scores-ciphers l keys queries replies d h =
     let whole : (i : ℕ) → i < length replies → IsOfDegree l.shape.degree (ciphertext_at replies i) =
-        λ i u. subst (IsOfDegree l.shape.degree) (sym (h.each i u).is) (sum-whole (weights_of l) keys queries (h.each i u).diagonal d) in
+    λ i u. subst (IsOfDegree l.shape.degree) (sym (h.each i u).is) (sum-whole (weights_of l) keys queries (h.each i u).diagonal d) in
     record {
       count_is = h.count;
       ciphers = All-from_get_or IsCiphertext replies no_ciphertext (λ i u. (whole i u).cipher);
@@ -218,3 +220,32 @@ document_round l secret keys can keys_body spelled query asked asks_spelled repl
     let same_replies : retrieved (bin_table l) keys done.query ≡ replies = one-list n l.shape.chunks (retrieved (bin_table l) keys done.query) replies reply (record { ciphers = retrieved-ciphers (bin_table l) keys done.query has.degree; spelled = done.is }) replies_spelled in
     subst (λ (cs : List Ciphertext). IsPayload (row_bytes (bin_table l) bin) (opened_reply secret cs)) (sym (ap (retrieved (bin_table l) keys) same_query) ∙ same_replies)
     (bin_opened l secret keys can query bin asks)
+
+-- ---- documents
+
+pub record_read : (l : Parts) (secret : List ℤ) (keys : Keys) → CanBeOpened l secret keys → (keys_body : List ℕ) → SpellsKeys l.shape keys keys_body
+    → (queries : List Ciphertext) (asked : List ℕ) → SpellsCiphers l.shape.degree (bucket_count l.shape.hits) queries asked
+    → (reply : List ℕ) → IsHonest l (Some keys_body) (exchange_of (record { target = Meta; body = asked }) (reply_with 200 reply))
+    → (replies : List Ciphertext) → SpellsCiphers l.shape.degree (bucket_count l.shape.hits * record_chunks l.shape.degree) replies reply
+    → (bucket number : ℕ) (document : Document) (shown : ShowsDocument l bucket number document) → bucket < bucket_count l.shape.hits
+    → AsksFor l.shape.degree secret (ciphertext_at queries bucket) l.shape.rows (document_row l.shape bucket number)
+    → record_of (take 256 (drop (document_start l.shape bucket number) (bytes_of (opened_reply secret (bucket_replies l.shape replies bucket)))))
+    ≡ Ok (record { document = number; place = shown.place; title = document.title })
+record_read l secret keys can keys_body spelled queries asked asks_spelled reply honest replies replies_spelled bucket number document shown b asks =
+    ap (λ (bytes : List ℕ). record_of (take 256 (drop (document_start l.shape bucket number) bytes)))
+    (bytes_read (row_bytes (bucket_table l bucket) (document_row l.shape bucket number)) (opened_reply secret (bucket_replies l.shape replies bucket))
+    (record_round l secret keys can keys_body spelled queries asked asks_spelled reply honest replies replies_spelled bucket (document_row l.shape bucket number) b asks))
+    ∙ shown.read
+
+pub text_read : (l : Parts) (secret : List ℤ) (keys : Keys) → CanBeOpened l secret keys → (keys_body : List ℕ) → SpellsKeys l.shape keys keys_body
+    → (query : Ciphertext) (asked : List ℕ) → SpellsCiphers l.shape.degree 1 (query ∷ []) asked
+    → (reply : List ℕ) → IsHonest l (Some keys_body) (exchange_of (record { target = ForDocument; body = asked }) (reply_with 200 reply))
+    → (replies : List Ciphertext) → SpellsCiphers l.shape.degree l.shape.chunks replies reply
+    → (bucket number : ℕ) (document : Document) (shown : ShowsDocument l bucket number document)
+    → AsksFor l.shape.degree secret query l.shape.bins shown.place.bin
+    → take shown.place.length (drop shown.place.offset (bytes_of (opened_reply secret replies))) ≡ document.text
+text_read l secret keys can keys_body spelled query asked asks_spelled reply honest replies replies_spelled bucket number document shown asks =
+    ap (λ (bytes : List ℕ). take shown.place.length (drop shown.place.offset bytes))
+    (bytes_read (row_bytes (bin_table l) shown.place.bin) (opened_reply secret replies)
+    (document_round l secret keys can keys_body spelled query asked asks_spelled reply honest replies replies_spelled shown.place.bin asks))
+    ∙ shown.text

@@ -1,5 +1,5 @@
 -- The scores that a client reads are those of the documents.
-use Rattle.std.proofs.Common.{◌≡◌, ℕ, ◌+◌, ◌*◌, ◌/◌, ◌%◌, ◌<◌, ◌≤◌, sym, ap, subst, ◌∙◌, ⊎_elim, arith, ℤ, List, [], length, get_or, map, All, Some, None}
+use Rattle.std.proofs.Common.{◌≡◌, ℕ, ◌+◌, ◌*◌, ◌/◌, ◌%◌, ◌<◌, ◌≤◌, sym, ap, subst, ◌∙◌, ⊎_elim, arith, ℤ, List, [], length, get_or, All, Some, None}
 use Rattle.std.specs.Prelude.{slice_get}
 use Rattle.std.specs.Int.{div_ceil}
 use Rattle.std.proofs.lemmas.Bool.{cases_lt}
@@ -15,7 +15,7 @@ use Rattle.co_noise.specs.Bounds.{score_bound, HasRoom}
 use Rattle.co_noise.proofs.Ranges.{ranges}
 use Rattle.co_bfv.specs.Secrets.{IsSecret, IsTernary}
 use Rattle.co_bfv.specs.Ciphertexts.{Ciphertext, ciphertext_degree}
-use Rattle.co_bfv.specs.Totals.{ciphertext_at, ciphertext_total}
+use Rattle.co_bfv.specs.Totals.{ciphertext_at}
 use Rattle.co_bfv.proofs.Ternary.{secret-IsTernary}
 use Rattle.co_bfv.proofs.Totals.{ciphertext_total-degree}
 use Rattle.co_switch.specs.Keys.{Keys, AreGoodKeys}

@@ -1,10 +1,10 @@
 -- The weight of a term in a document, by the entries of a library.
-use Rattle.std.proofs.Common.{◌≡◌, ℕ, ◌+◌, ◌<◌, ◌≤◌, ◌⊎◌, inl, inr, ⊎_elim, Bool, true, false, cond, eqb, ◌&&◌, ◌||◌, List, [], ◌∷◌, length, get_or, Option, Some, None, refl, ap, subst, ◌∙◌, arith, All}
-use Rattle.std.specs.Prelude.{nat_lt, nat_le, slice_get, IsTrue}
+use Rattle.std.proofs.Common.{◌≡◌, ℕ, ◌+◌, ◌<◌, ◌≤◌, ◌⊎◌, inl, inr, ⊎_elim, Bool, true, false, cond, eqb, ◌&&◌, ◌||◌, List, [], ◌∷◌, Option, Some, None, refl, ap, subst, ◌∙◌, arith, All}
+use Rattle.std.specs.Prelude.{nat_lt, slice_get}
 use Rattle.std.proofs.lemmas.Bool.{eqb-true}
 use Rattle.std.proofs.lemmas.Bool.Decides.{nat_tests}
 use Rattle.std.proofs.lemmas.List.Elements.{All-cons}
-use Rattle.co_noise.specs.Shapes.{Numbers, keyword_blocks, is_within}
+use Rattle.co_noise.specs.Shapes.{Numbers, keyword_blocks}
 use Rattle.co_noise.specs.Bounds.{score_bound}
 use Rattle.co_corpus.specs.declared.documents.Document.{Document}
 use Rattle.co_tfidf.specs.EntryScores.{weight_at, weight_in}
@@ -69,12 +69,7 @@ weight_of-is s before (e ∷ es) t d chain = step (weight_of-is s (Some e) es t 
 -- each weight is at most 4032
 pub weights_small : (s : Numbers) (before : Option Entry) (es : List Entry) → IsChain (IsEntry s) before es → All (λ e. e.2 ≤ 4032) es
 weights_small s before [] chain = λ i d l. absurd (omega arith)
-weights_small s before (e ∷ es) chain =
-    let small : e.2 ≤ 4032 = high e.2 chain.0.weight in
-    All-cons (λ x. x.2 ≤ 4032) e es small (weights_small s (Some e) es chain.1)
-  where
-    high : (n : ℕ) → IsTrue (is_within 1 4032 n) → n ≤ 4032
-    high n h = grind (arith, nat_tests)
+weights_small s before (e ∷ es) chain = All-cons (λ x. x.2 ≤ 4032) e es chain.0.few (weights_small s (Some e) es chain.1)
 
 -- ---- the matrix of a library
 

@@ -3,12 +3,12 @@
 //! Over honest exchanges a client that asks as planned reads the plain answer; and a session has one
 //! answer to a request.
 
-ghost use Rattle.std.specs.Prelude.{◌≡◌, ◌≢◌, ◌≤◌, ◌<◌, ◌*◌, ◌⊎◌, [], ◌∷◌, ℕ, ℤ, List, length, slice_get, Option, Some, Ok};
+ghost use Rattle.std.specs.Prelude.{◌≡◌, ◌≢◌, ◌≤◌, ◌<◌, ◌*◌, ◌⊎◌, [], ◌∷◌, ℕ, ℤ, List, length, take, drop, slice_get, Option, Some, Ok};
 ghost use Rattle.std.specs.List.{Contains};
 ghost use Rattle.co_bucket.specs.Lists.{bucket_count, candidates_of};
 ghost use Rattle.co_bucket.specs.Bytes.{record_chunks};
 ghost use Rattle.co_math.specs.Coefficients.{AreBelow, signed_coefficients};
-ghost use Rattle.co_noise.specs.Shapes.{keyword_blocks, document_blocks};
+ghost use Rattle.co_noise.specs.Shapes.{numbers, keyword_blocks, document_blocks};
 ghost use Rattle.co_noise.specs.Bounds.{HasRoom, score_bound};
 ghost use Rattle.co_slots.specs.Payloads.{IsPayload};
 ghost use Rattle.co_bfv.specs.Secrets.{IsSecret};
@@ -21,13 +21,14 @@ ghost use Rattle.co_pir.specs.Tables.{IsTable, row_bytes};
 ghost use Rattle.co_pir.specs.Replies.{retrieved};
 ghost use Rattle.co_pir.specs.Openings.{opened_reply};
 ghost use Rattle.co_corpus.specs.declared.documents.Document.{Document};
+ghost use Rattle.co_pack.specs.Records.{record_of};
 ghost use Rattle.co_text.specs.Terms.{distinct};
 ghost use Rattle.co_text.specs.Numbers.{numbers_of as keywords_of};
 ghost use Rattle.co_tfidf.specs.Scores.{scores};
 ghost use Rattle.co_tfidf.specs.EntryScores.{weight_in};
 ghost use Rattle.co_wire.specs.Bodies.{AreKeysFor, AreCiphers, SpellsCiphers, SpellsKeys};
 ghost use Rattle.co_wire.specs.Public.{public_of};
-ghost use Rattle.co_link.specs.declared.messages.Target.TheVariants.{Public, Score, Meta, Document as ForDocument};
+ghost use Rattle.co_link.specs.declared.messages.Target.TheVariants.{Public, Keys as ForKeys, Score, Meta, Document as ForDocument};
 ghost use Rattle.co_link.specs.declared.messages.Request.{Request};
 ghost use Rattle.co_link.specs.declared.messages.Exchange.{Exchange};
 ghost use Rattle.co_link.specs.Exchanges.{exchange_of};
@@ -39,7 +40,9 @@ ghost use Rattle.co_rounds.specs.declared.answer.Answer.TheVariants.{OutOfMemory
 ghost use Rattle.co_rounds.specs.Serving.{weights_of, gathered, bucket_table, bin_table};
 ghost use Rattle.co_rounds.specs.Answers.{IsAnswer, IsGoodRequest, Spells, reply_with};
 ghost use Rattle.co_rounds.specs.Honest.{IsHonest, AreHeld};
+ghost use Rattle.co_rounds.specs.Plans.{plan};
 ghost use Rattle.co_rounds.specs.Scoring.{AskScores, scores_read};
+ghost use Rattle.co_rounds.specs.Placing.{document_row, document_start};
 ghost use Rattle.co_rounds.specs.Recording.{IsLibraryFor, ShowsDocument, CanBeOpened, AsksFor, bytes_of, bucket_replies};
 
 /// The entries of a library are entries of its weight matrix. The weight of a term there is that of
@@ -60,6 +63,11 @@ pub fn score_bounds_agree()
 pub fn tables_are_whole()
     ensures buckets { (l : Parts) → IsLibrary l → HasRoom l.shape → (bucket : ℕ) → bucket < bucket_count l.shape.hits → IsTable (bucket_table l bucket) }
     ensures bins { (l : Parts) → IsLibrary l → HasRoom l.shape → IsTable (bin_table l) }
+{}
+
+/// The plan for degree 512, 4 documents, 5 terms, 16 hits, and one row, bin and chunk, in numerals.
+pub fn a_plan_in_numerals()
+    ensures { plan (numbers 512 4 5 16 0 1 1 1) ≡ (Public, 0) ∷ (ForKeys, 688128) ∷ (Score, 14336) ∷ (Meta, 344064) ∷ (ForDocument, 14336) ∷ [] }
 {}
 
 /// A request has one answer under the keys that are held, but for want of memory.
@@ -164,4 +172,27 @@ pub fn document_round_opens()
         → (replies : List Ciphertext) → SpellsCiphers l.shape.degree l.shape.chunks replies reply
         → (bin : ℕ) → AsksFor l.shape.degree secret query l.shape.bins bin
         → IsPayload (row_bytes (bin_table l) bin) (opened_reply secret replies) }
+{}
+
+/// So a client that asks a bucket for the row of a document reads the document's record there.
+pub fn records_are_read()
+    ensures { (l : Parts) (secret : List ℤ) (keys : Keys) → CanBeOpened l secret keys → (keys_body : List ℕ) → SpellsKeys l.shape keys keys_body
+        → (queries : List Ciphertext) (asked : List ℕ) → SpellsCiphers l.shape.degree (bucket_count l.shape.hits) queries asked
+        → (reply : List ℕ) → IsHonest l (Some keys_body) (exchange_of (record { target = Meta; body = asked }) (reply_with 200 reply))
+        → (replies : List Ciphertext) → SpellsCiphers l.shape.degree (bucket_count l.shape.hits * record_chunks l.shape.degree) replies reply
+        → (bucket number : ℕ) (document : Document) (shown : ShowsDocument l bucket number document) → bucket < bucket_count l.shape.hits
+        → AsksFor l.shape.degree secret (ciphertext_at queries bucket) l.shape.rows (document_row l.shape bucket number)
+        → record_of (take 256 (drop (document_start l.shape bucket number) (bytes_of (opened_reply secret (bucket_replies l.shape replies bucket)))))
+        ≡ Ok (record { document = number; place = shown.place; title = document.title }) }
+{}
+
+/// And a client that asks for the bin that the record names reads the document's text there.
+pub fn texts_are_read()
+    ensures { (l : Parts) (secret : List ℤ) (keys : Keys) → CanBeOpened l secret keys → (keys_body : List ℕ) → SpellsKeys l.shape keys keys_body
+        → (query : Ciphertext) (asked : List ℕ) → SpellsCiphers l.shape.degree 1 (query ∷ []) asked
+        → (reply : List ℕ) → IsHonest l (Some keys_body) (exchange_of (record { target = ForDocument; body = asked }) (reply_with 200 reply))
+        → (replies : List Ciphertext) → SpellsCiphers l.shape.degree l.shape.chunks replies reply
+        → (bucket number : ℕ) (document : Document) (shown : ShowsDocument l bucket number document)
+        → AsksFor l.shape.degree secret query l.shape.bins shown.place.bin
+        → take shown.place.length (drop shown.place.offset (bytes_of (opened_reply secret replies))) ≡ document.text }
 {}

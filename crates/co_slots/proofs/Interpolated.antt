@@ -1,5 +1,5 @@
 -- Any slots below t have a polynomial: that of the values at the powers of the root, by interpolation.
-use Rattle.std.proofs.Common.{◌≡◌, ℕ, ◌+◌, ◌*◌, ◌-◌, ◌/◌, ◌%◌, ◌^◌, ◌<◌, refl, sym, ap, subst, ◌∙◌, arith, ℤ, pos, ◌*ℤ◌, List, length, get_or, map}
+use Rattle.std.proofs.Common.{◌≡◌, ℕ, ◌*◌, ◌-◌, ◌/◌, ◌<◌, refl, sym, ap, subst, ◌∙◌, arith, ℤ, pos, ◌*ℤ◌, List, length, get_or, map}
 use Rattle.std.specs.List.{range_with_len}
 use Rattle.std.proofs.lemmas.List.FromFn.{length-map-range_with_len, get_or-map-range_with_len}
 use Rattle.std.proofs.lemmas.Nat.{pow_pos}
@@ -15,10 +15,10 @@ use Rattle.co_math.proofs.Reduced.{reduced_as, residue_of}
 use Rattle.co_math.proofs.Totals.{total-same}
 use Rattle.co_math.proofs.Terms.{coefficient-low}
 use Rattle.co_ring.specs.declared.moduli.Modulus.TheVariants.{Plain}
+use Rattle.co_ring.proofs.Inverting.{interpolated}
 use Rattle.co_ring.proofs.Rooted.{root_minus}
 use Rattle.co_slots.specs.Slots.{exponent_of, slot, AreSlots}
 use Rattle.co_slots.proofs.Exponents.{exponent-lt, exponent-odd, exponents_differ}
-use Rattle.co_slots.proofs.Inverting.{interpolated}
 use Rattle.co_slots.proofs.Placing.{degree-inverse}
 
 -- the sum of values[p] * zeta^(-exponent p * k)

@@ -1,5 +1,5 @@
 -- The slots among the values of a spectrum.
-use Rattle.std.proofs.Common.{◌≡◌, ℕ, ◌+◌, ◌*◌, ◌-◌, ◌/◌, ◌<◌, ◌≤◌, ◌^◌, ◌≢◌, refl, sym, ap, ◌∙◌, ⊎_elim, arith, ℤ, pos, ◌*ℤ◌, List, [], ◌∷◌, ◌++◌, length, get_or, set}
+use Rattle.std.proofs.Common.{◌≡◌, ℕ, ◌+◌, ◌*◌, ◌-◌, ◌/◌, ◌<◌, ◌≤◌, ◌^◌, ◌≢◌, refl, sym, ap, subst, ◌∙◌, ⊎_elim, arith, pos, ◌*ℤ◌, List, [], ◌∷◌, ◌++◌, length, get_or, set}
 use Rattle.std.proofs.lemmas.Bool.{cases_eq}
 use Rattle.std.proofs.lemmas.List.{length-set, get_or-set_other, get_or-set_same}
 use Rattle.std.proofs.lemmas.Grind.{elements}
@@ -16,6 +16,9 @@ use Rattle.co_math.proofs.Residues.{cong-neg, residue-same}
 use Rattle.co_math.proofs.Reduced.{residue_of}
 use Rattle.co_math.proofs.Degrees.{degree_positive}
 use Rattle.co_transform.proofs.Reversals.{place-place}
+use Rattle.co_ring.specs.declared.moduli.Modulus.{Modulus}
+use Rattle.co_ring.specs.declared.moduli.Modulus.TheVariants.{Plain}
+use Rattle.co_ring.specs.Moduli.{value_of}
 use Rattle.co_ring.specs.Spectra.{AreValues}
 use Rattle.co_slots.specs.Slots.{exponent_of, slot, AreSlots, ArePlaces, AreScattered}
 use Rattle.co_slots.proofs.Exponents.{exponent-second, exponent-lt, exponent-odd, exponents_differ}
@@ -67,6 +70,11 @@ slot_value_at n p xs values z len v =
     v.each (exponent_of n p / 2) (half-lt n p z)
     ∙ ap (λ e. residue plain_modulus (value_at n (coefficients xs) (power (pos (root plain_modulus n)) e))) (half-odd n p z)
     ∙ ap (λ k. residue plain_modulus (value_at k (coefficients xs) (power (pos (root plain_modulus k)) (exponent_of k p)))) (sym len)
+
+-- values modulo a modulus that is t, of one degree
+pub plain_values : (modulus : Modulus) (k n : ℕ) (xs values : List ℕ) → modulus ≡ Plain → k ≡ n → AreValues (value_of modulus) k (coefficients xs) values → AreValues plain_modulus n (coefficients xs) values
+plain_values modulus k n xs values plain size v =
+    subst (λ (k : ℕ). AreValues plain_modulus k (coefficients xs) values) size (subst (λ (m : Modulus). AreValues (value_of m) k (coefficients xs) values) plain v)
 
 pub slots_of_values : (n : ℕ) (xs slots values : List ℕ) → 0 < n → length xs ≡ n → length slots ≡ n → AreValues plain_modulus n (coefficients xs) values → AreScattered n n slots values → AreSlots xs slots
 slots_of_values n xs slots values z len count v s = record {

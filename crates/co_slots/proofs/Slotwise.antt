@@ -191,16 +191,15 @@ pub second_row_turned : (i j : ℕ) (xs ys : List ℕ) → IsDegree (length xs) 
 second_row_turned i j xs ys d s l =
     let n = length xs in
     let h = n / 2 in
-    let m = 2 * n in
-    let g = residue m (power (pos 3) i) in
+    let g = residue (2 * n) (power (pos 3) i) in
     let r = (j + i) % h in
     let z = degree_positive n d in
     let back : (k : ℕ) → h + k - h ≡ k = λ k. omega arith in
-    let at : (k : ℕ) → exponent_of n (h + k) ≡ residue m (neg_ℤ (power (pos 3) k)) = λ k. exponent-second n (h + k) (omega arith) ∙ ap (λ y. residue m (neg_ℤ (power (pos 3) y))) (back k) in
+    let at : (k : ℕ) → exponent_of n (h + k) ≡ residue (2 * n) (neg_ℤ (power (pos 3) k)) = λ k. exponent-second n (h + k) (omega arith) ∙ ap (λ y. residue (2 * n) (neg_ℤ (power (pos 3) y))) (back k) in
     slot-substituted g (h + j) (h + r) xs ys d (turn-odd n i d) s
-    (cong-trans m (cong-mul m (residue_of m (exponent_of n (h + j)) (neg_ℤ (power (pos 3) j)) (omega arith) (at j)) (residue-is m (power (pos 3) i) (omega arith)))
-    (cong-trans m (cong_from m (outward (power (pos 3) j) (power (pos 3) i) ∙ ap neg_ℤ (sym (power-add (pos 3) j i)))) (cong-trans m (cong-neg m (power_reduced m h (pos 3) (powers_return n d) (j + i)))
-    (cong-sym m (residue_of m (exponent_of n (h + r)) (neg_ℤ (power (pos 3) r)) (omega arith) (at r))))))
+    (cong-trans (2 * n) (cong-mul (2 * n) (residue_of (2 * n) (exponent_of n (h + j)) (neg_ℤ (power (pos 3) j)) (omega arith) (at j)) (residue-is (2 * n) (power (pos 3) i) (omega arith)))
+    (cong-trans (2 * n) (cong_from (2 * n) (outward (power (pos 3) j) (power (pos 3) i) ∙ ap neg_ℤ (sym (power-add (pos 3) j i)))) (cong-trans (2 * n) (cong-neg (2 * n) (power_reduced (2 * n) h (pos 3) (powers_return n d) (j + i)))
+    (cong-sym (2 * n) (residue_of (2 * n) (exponent_of n (h + r)) (neg_ℤ (power (pos 3) r)) (omega arith) (at r))))))
   where
     outward : (a b : ℤ) → neg_ℤ a *ℤ b ≡ neg_ℤ (a *ℤ b)
     outward a b = simp expand

@@ -1,4 +1,4 @@
-// Payload bytes, two a coefficient.
+//! Payload bytes, two a coefficient.
 
 ghost use Rattle.std.specs.Prelude.{◌≡◌, ◌*◌, ◌<◌, length, IfOk, IfErr, OnOk};
 ghost use Rattle.co_math.specs.Coefficients.{AreBelow};

@@ -1,6 +1,7 @@
-// Slots, by the transform modulo t.
+//! Slots, by the transform modulo t.
 
-ghost use Rattle.std.specs.Prelude.{◌≡◌, ◌+◌, ◌*◌, ◌/◌, ◌<◌, ◌≤◌, ◌^◌, ℕ, length, slice_index, pos, IfOk};
+ghost use Rattle.std.specs.Prelude.{◌≡◌, ◌+◌, ◌*◌, ◌/◌, ◌<◌, ◌≤◌, ◌^◌, ℕ, length, slice_index, pos};
+ghost use Rattle.std.specs.Prelude.{IfOk};
 ghost use Rattle.co_math.specs.Parameters.{plain_modulus};
 ghost use Rattle.co_math.specs.Exponents.{place};
 ghost use Rattle.co_math.specs.Coefficients.{AreBelow, IsDegree};
@@ -87,7 +88,8 @@ fn scatter(places: &[usize], values: &[u64], into: &mut Spectrum)
     requires into_modulus { into.old.modulus ≡ Modulus.Plain }
     requires into_degree { length into.old.values ≡ length values.now }
     ensures modulus { into.new.modulus ≡ Modulus.Plain }
-    ensures values { AreScattered (length values.now) (length values.now) values.now into.new.values }
+    ensures values { AreScattered (length values.now)
+        (length values.now) values.now into.new.values }
 {
     for p in 0..values.len() {
         into.set_leaf(places[p], values[p]);

@@ -1,4 +1,4 @@
-// The Galois elements of the keys of a set.
+//! The Galois elements of the keys of a set.
 
 ghost use Rattle.std.specs.Prelude.{◌≡◌, ◌+◌, ◌*◌, ◌/◌, ◌%◌, ◌<◌, ◌≤◌};
 ghost use Rattle.co_math.specs.Coefficients.{IsDegree};

@@ -1,4 +1,4 @@
-// The keys of a client.
+//! The keys of a client.
 
 ghost use Rattle.std.specs.Prelude.{◌≡◌};
 ghost use Rattle.co_switch.specs.Keys.{AreKeys, keys_degree};
@@ -21,7 +21,8 @@ impl Model for KeySet {
 
     ghost view = { λ k. record { rotations = k.rotations.items; expansions = k.expansions.items } };
 
-    ghost invariant = { λ k. AreKeys (record { rotations = k.rotations.items; expansions = k.expansions.items }) };
+    ghost invariant = { λ k. AreKeys
+        (record { rotations = k.rotations.items; expansions = k.expansions.items }) };
 }
 
 impl KeySet {

@@ -1,4 +1,4 @@
-// Keys for one Galois element.
+//! Keys for one Galois element.
 
 ghost use Rattle.std.specs.Prelude.{◌≡◌, ◌*◌, ◌%◌, ◌<◌, length, All, IfOk};
 ghost use Rattle.co_math.specs.Parameters.{digit_count};
@@ -30,7 +30,9 @@ impl Model for GaloisKey {
 
     ghost view = { λ k. record { element = k.element; k0 = k.k0.items; k1 = k.k1.items } };
 
-    ghost invariant = { λ k. IsKept (record { element = k.element; k0 = k.k0.items; k1 = k.k1.items }) k.tables k.values0.items k.values1.items };
+    ghost invariant = { λ k. IsKept
+        (record { element = k.element; k0 = k.k0.items; k1 = k.k1.items })
+        k.tables k.values0.items k.values1.items };
 }
 
 // The values of polynomials of one degree.
@@ -61,7 +63,8 @@ impl GaloisKey {
         k1: Vec<Pair>,
     ) -> Result<GaloisKey, AllocError>
         requires { IsKey (record { element = element; k0 = k0.items; k1 = k1.items }) }
-        ensures { IfOk result (λ key. key ≡ record { element = element; k0 = k0.items; k1 = k1.items }) }
+        ensures { IfOk result (λ key.
+            key ≡ record { element = element; k0 = k0.items; k1 = k1.items }) }
     {
         let tables = Tables::new(alloc, Degree::of(k0[0].degree()))?;
         let values0 = spectra(alloc, &tables, &k0)?;

@@ -1,9 +1,10 @@
-// Keys made from a secret and a generator's words.
+//! Keys made from a secret and a generator's words.
 
 ghost use Rattle.std.specs.Prelude.{◌≡◌, ◌+◌, ◌*◌, ◌/◌, ◌%◌, ◌<◌, ◌≤◌, length, IfOk, OnOk};
 ghost use Rattle.co_math.specs.Parameters.{q};
 ghost use Rattle.co_math.specs.Polynomials.{plus, minus, product};
-ghost use Rattle.co_math.specs.Coefficients.{coefficients, IsDegree, residues_of, signed_coefficients};
+ghost use Rattle.co_math.specs.Coefficients.{coefficients, IsDegree, residues_of};
+ghost use Rattle.co_math.specs.Coefficients.{signed_coefficients};
 ghost use Rattle.co_noise.specs.Shapes.{levels};
 ghost use Rattle.co_math.specs.Logarithms.{log2_up};
 ghost use Rattle.co_bfv.specs.Draws.{uniform_draw, error_draw};
@@ -35,7 +36,8 @@ pub fn make_key<R: Rng>(
     requires odd { element % 2 ≡ 1 }
     requires within { element < 2 * length secret.now }
     ensures value { IfOk result (λ key. key ≡ (key_draw secret.now element (R.stream rng.old)).0) }
-    ensures rest { OnOk result (R.stream rng.new ≡ (key_draw secret.now element (R.stream rng.old)).1) }
+    ensures rest { OnOk result (R.stream rng.new
+        ≡ (key_draw secret.now element (R.stream rng.old)).1) }
     ensures good { IfOk result (IsGoodKey (signed_coefficients secret.now)) }
     ensures degree { IfOk result (λ key. key_degree key ≡ length secret.now) }
 {
@@ -61,7 +63,8 @@ fn make_pair<R: Rng>(
     rng: &mut R,
 ) -> Result<(Pair, Pair), AllocError>
     requires { length hidden.now ≡ length secret.now }
-    ensures second { IfOk result (λ pair. pair.1 ≡ (uniform_draw (length secret.now) (R.stream rng.old)).0) }
+    ensures second { IfOk result (λ pair.
+        pair.1 ≡ (uniform_draw (length secret.now) (R.stream rng.old)).0) }
     ensures first { IfOk result (λ pair. let n = length secret.now in
         let e = (error_draw n (uniform_draw n (R.stream rng.old)).1).0 in
         pair.0 ≡ residues_of q n (plus (minus (signed_coefficients e)
@@ -77,7 +80,8 @@ fn make_pair<R: Rng>(
     Ok((sum, uniform))
 }
 
-/// The keys for a tested shape: the rotation keys, then as many expansion keys as the shape has levels.
+/// The keys for a tested shape: the rotation keys, then as many expansion keys as the shape has
+/// levels.
 /// After an error the rest of the stream is not stated.
 pub fn make_keys<R: Rng>(
     alloc: Global,
@@ -92,7 +96,8 @@ pub fn make_keys<R: Rng>(
         R.stream rng.new ≡ (key_set_draw secret.now (levels tested.now) (R.stream rng.old)).1) }
     ensures good { IfOk result (AreGoodKeys (signed_coefficients secret.now)) }
     ensures degree { IfOk result (λ keys. keys_degree keys ≡ tested.now.degree) }
-    ensures rotations { IfOk result (λ keys. length keys.rotations ≡ log2_up (tested.now.degree / 2)) }
+    ensures rotations { IfOk result (λ keys.
+        length keys.rotations ≡ log2_up (tested.now.degree / 2)) }
     ensures expansions { IfOk result (λ keys. length keys.expansions ≡ levels tested.now) }
 {
     let _ = secret.degree();
@@ -114,9 +119,13 @@ fn make_rotations<R: Rng>(
     requires one_degree { length secret.now ≡ degree }
     requires degree { IsDegree degree }
     ensures value { IfOk result (λ keys. let n = length secret.now in
-        keys.items ≡ (keys_draw secret.now (elements.rotation_element n) (log2_up (n / 2)) (R.stream rng.old)).0) }
+        keys.items
+        ≡ (keys_draw secret.now (elements.rotation_element n) (log2_up (n / 2))
+        (R.stream rng.old)).0) }
     ensures rest { OnOk result (let n = length secret.now in
-        R.stream rng.new ≡ (keys_draw secret.now (elements.rotation_element n) (log2_up (n / 2)) (R.stream rng.old)).1) }
+        R.stream rng.new
+        ≡ (keys_draw secret.now (elements.rotation_element n) (log2_up (n / 2))
+        (R.stream rng.old)).1) }
 {
     let count = log2_up(degree / 2);
     let mut keys = Vec::with_capacity(alloc, count as usize)?;
@@ -139,9 +148,11 @@ fn make_expansions<R: Rng>(
     requires degree { IsDegree degree }
     requires few { levels ≤ log2_up (degree / 2) + 1 }
     ensures value { IfOk result (λ keys. let n = length secret.now in
-        keys.items ≡ (keys_draw secret.now (elements.expansion_element n) levels (R.stream rng.old)).0) }
+        keys.items
+        ≡ (keys_draw secret.now (elements.expansion_element n) levels (R.stream rng.old)).0) }
     ensures rest { OnOk result (let n = length secret.now in
-        R.stream rng.new ≡ (keys_draw secret.now (elements.expansion_element n) levels (R.stream rng.old)).1) }
+        R.stream rng.new
+        ≡ (keys_draw secret.now (elements.expansion_element n) levels (R.stream rng.old)).1) }
 {
     let mut keys = Vec::with_capacity(alloc, levels as usize)?;
     for index in 0..levels {

@@ -1,4 +1,4 @@
-// Sums of the products of digits and a key's polynomials, by values.
+//! Sums of the products of digits and a key's polynomials, by values.
 
 ghost use Rattle.std.specs.Prelude.{ℕ, ℤ, List, ◌≡◌, length, IfOk};
 ghost use Rattle.co_math.specs.Parameters.{q};
@@ -25,7 +25,8 @@ pub fn digit_sums(
     requires values1 { AreOfDegree tables.now values1.now }
     ensures first { IfOk result (λ sums. (ks : List (List ℕ)) → AreSpectra tables.now ks values0.now
         → sums.0 ≡ residues_of q tables.now (digit_sum poly.now ks)) }
-    ensures second { IfOk result (λ sums. (ks : List (List ℕ)) → AreSpectra tables.now ks values1.now
+    ensures second { IfOk result (λ sums. (ks : List (List ℕ))
+        → AreSpectra tables.now ks values1.now
         → sums.1 ≡ residues_of q tables.now (digit_sum poly.now ks)) }
     ensures first_degree { IfOk result (λ sums. length sums.0 ≡ tables.now) }
     ensures second_degree { IfOk result (λ sums. length sums.1 ≡ tables.now) }
@@ -56,7 +57,8 @@ fn polynomial_of(
 ) -> Result<Pair, AllocError>
     requires sum_degree { length sum.now.first ≡ tables.now }
     requires values_degree { spectrum_degree values.old ≡ tables.now }
-    ensures value { IfOk result (λ p. (f : ℤ → ℤ) → IsPairSumOf tables.now f sum.now → p ≡ residues_of q tables.now f) }
+    ensures value { IfOk result (λ p. (f : ℤ → ℤ) → IsPairSumOf tables.now f sum.now
+        → p ≡ residues_of q tables.now f) }
     ensures degree { IfOk result (λ p. length p ≡ tables.now) }
     ensures values_degree { spectrum_degree values.new ≡ tables.now }
 {

@@ -1,4 +1,4 @@
-// The count of key switches.
+//! The count of key switches.
 
 ghost use Rattle.std.specs.Prelude.{◌≡◌};
 ghost use Rattle.co_switch.specs.Steps.{raised};

@@ -1,4 +1,4 @@
-// The switch.
+//! The switch.
 
 ghost use Rattle.std.specs.Prelude.{ℕ, ℤ, ◌≡◌, ◌+◌, ◌*◌, ◌%◌, ◌<◌, length, IfOk, OnOk, OnErr};
 ghost use Rattle.co_math.specs.Polynomials.{IsWrapped, substitution};

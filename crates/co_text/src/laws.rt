@@ -1,4 +1,4 @@
-// Facts on terms and rankings. Each function returns nothing: its contract is the fact.
+//! Facts on terms and rankings. Each function returns nothing: its contract is the fact.
 ghost use Rattle.std.specs.Prelude.{◌≡◌, ◌<◌, ◌≤◌, ◌==◌, ℕ, false, List, length, All, slice_get, Some, None};
 ghost use Rattle.std.specs.List.{list_any, IsDistinct};
 ghost use Rattle.std.specs.List.Sorted.{IsStrictlySortedBy};

@@ -1,4 +1,4 @@
-// Limits that several crates share.
+//! Limits that several crates share.
 
 /// The most distinct terms of a query.
 pub const MAX_KEYWORDS: usize = 16;

@@ -1,4 +1,4 @@
-// Numbers of terms in a vocabulary.
+//! Numbers of terms in a vocabulary.
 ghost use Rattle.std.specs.Prelude.{◌≡◌, ◌≤◌, ◌^◌, length, is_some, IfOk};
 ghost use Rattle.std.specs.List.{list_any};
 ghost use Rattle.std.specs.List.Sorted.{IsStrictlySortedBy};

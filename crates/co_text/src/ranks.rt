@@ -1,4 +1,4 @@
-// The order of hits.
+//! The order of hits.
 ghost use Rattle.std.specs.Prelude.{◌≡◌, ◌≤◌, ◌^◌, map, take, length, nat_lt, if◌then◌else◌, IfOk, OnOk};
 ghost use Rattle.std.specs.BTreeSet.{insert_key};
 ghost use Rattle.co_text.specs.Ranking.{ranking};

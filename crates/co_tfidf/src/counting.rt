@@ -1,8 +1,9 @@
-// Counting the terms of a corpus, in an ordered map.
+//! Counting the terms of a corpus, in an ordered map.
 ghost use Rattle.std.specs.Prelude.{◌≡◌, ◌≤◌, ◌<◌, ◌++◌, ◌&&◌, ℕ, List, All, length, IfOk, OnOk, Some, if◌then◌else◌};
 ghost use Rattle.std.specs.Str.{bytes_eq};
 ghost use Rattle.std.specs.BTreeMap.{get_by_text};
 ghost use Rattle.co_text.specs.Terms.{terms, folded, is_short};
+ghost use Rattle.co_text.specs.declared.limits.TheConstants.{MAX_DOCUMENTS};
 ghost use Rattle.co_corpus.specs.Documents.{IsDocument};
 ghost use Rattle.co_tfidf.specs.Counts.{term_frequency};
 ghost use Rattle.co_tfidf.specs.Postings.{counted, posting, postings, postings_of, listed};
@@ -17,13 +18,11 @@ use unicode_segmentation::UnicodeSegmentation;
 /// The postings of each term.
 pub type Counts = BTreeMap<String, Postings>;
 
+// Whether there was memory to count.
+type Counted = Result<(), AllocError>;
+
 // One occurrence more of a term.
-fn count_term(
-    alloc: Global,
-    counts: &mut Counts,
-    term: &str,
-    document: u32,
-) -> Result<(), AllocError>
+fn count_term(alloc: Global, counts: &mut Counts, term: &str, document: u32) -> Counted
     ensures { OnOk result ((w : List ℕ) → get_by_text counts.new w
         ≡ (if bytes_eq w term.now then Some (counted (postings_of counts.old w) document) else get_by_text counts.old w)) }
 {
@@ -41,12 +40,7 @@ fn count_term(
 }
 
 // One occurrence more of a folded word, if it isn't too long for a term.
-fn count_folded(
-    alloc: Global,
-    counts: &mut Counts,
-    term: &str,
-    document: u32,
-) -> Result<(), AllocError>
+fn count_folded(alloc: Global, counts: &mut Counts, term: &str, document: u32) -> Counted
     ensures { OnOk result ((w : List ℕ) → get_by_text counts.new w
         ≡ (if is_short term.now && bytes_eq w term.now then Some (counted (postings_of counts.old w) document) else get_by_text counts.old w)) }
 {
@@ -57,12 +51,7 @@ fn count_folded(
 }
 
 // One occurrence more of a word. One that is its own folding is looked up as it stands.
-fn count_word(
-    alloc: Global,
-    counts: &mut Counts,
-    word: &str,
-    document: u32,
-) -> Result<(), AllocError>
+fn count_word(alloc: Global, counts: &mut Counts, word: &str, document: u32) -> Counted
     ensures { OnOk result ((w : List ℕ) → get_by_text counts.new w
         ≡ (if is_short (folded word.now) && bytes_eq w (folded word.now) then Some (counted (postings_of counts.old w) document) else get_by_text counts.old w)) }
 {
@@ -85,12 +74,7 @@ fn text_of(document: &Document) -> &str
 }
 
 // The terms of one document more.
-fn count_document(
-    alloc: Global,
-    counts: &mut Counts,
-    document: &Document,
-    number: u32,
-) -> Result<(), AllocError>
+fn count_document(alloc: Global, counts: &mut Counts, document: &Document, number: u32) -> Counted
     requires document { IsDocument document.now }
     requires listed { (w : List ℕ) → get_by_text counts.old w ≡ listed (postings_of counts.old w) }
     requires before { (w : List ℕ) → All (λ p. p.document < number) (postings_of counts.old w) }
@@ -107,7 +91,7 @@ fn count_document(
 /// The postings of each term of these documents.
 pub fn count_documents(alloc: Global, documents: &[Document]) -> Result<Counts, AllocError>
     requires each { All IsDocument documents.now }
-    requires few { length documents.now ≤ 65536 }
+    requires few { length documents.now ≤ MAX_DOCUMENTS }
     ensures { IfOk result (λ counts. (w : List ℕ) → get_by_text counts w ≡ listed (postings w 0 documents.now)) }
 {
     let mut counts = BTreeMap::new(alloc);

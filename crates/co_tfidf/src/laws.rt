@@ -1,5 +1,5 @@
-// Facts on vocabularies, entries, scores and hits. Each function returns nothing: its contract is
-// the fact.
+//! Facts on vocabularies, entries, scores and hits. Each function returns nothing: its contract is
+//! the fact.
 ghost use Rattle.std.specs.Prelude.{◌≡◌, ◌≤◌, ◌*◌, ℕ, List, length, All, sum_by, slice_get, Some, None};
 ghost use Rattle.co_text.specs.Terms.{HasSize};
 ghost use Rattle.co_text.specs.Numbers.{numbers_of};

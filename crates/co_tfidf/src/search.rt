@@ -1,4 +1,4 @@
-// Plain search.
+//! Plain search.
 ghost use Rattle.std.specs.Prelude.{◌≡◌, ◌≤◌, ◌<◌, ◌+◌, ◌^◌, ◌==◌, ℕ, length, map, filter, not, take, nat_lt, is_some, Some, if◌then◌else◌, slice_get, slice_index, All, IfOk, IfSome, OnOk};
 ghost use Rattle.std.specs.List.{list_any};
 ghost use Rattle.std.specs.List.Sorted.{IsStrictlySortedBy, IsNonDecreasingBy};

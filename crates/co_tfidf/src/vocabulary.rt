@@ -1,4 +1,4 @@
-// The vocabulary: the terms of the most documents.
+//! The vocabulary: the terms of the most documents.
 ghost use Rattle.std.specs.Prelude.{◌≡◌, ◌≤◌, map, take, length, IfOk, OnOk, string_bytes, [], List};
 ghost use Rattle.std.specs.BTreeMap.{insert_entry, IsOrdered};
 ghost use Rattle.std.specs.Ordering.{nat_cmp};

@@ -1,4 +1,4 @@
-// Sums of products in 128 bits, and their residues.
+//! Sums of products in 128 bits, and their residues.
 
 ghost use Rattle.std.specs.Prelude.{◌≡◌, ◌+◌, ◌-◌, ◌*◌, ◌<◌, ◌≤◌, ◌%◌, ◌^◌, ℕ, length, slice_index};
 ghost use Rattle.co_transform.specs.Trees.{AreWithin, HaveResidues};

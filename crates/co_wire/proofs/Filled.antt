@@ -1,11 +1,11 @@
 -- A polynomial that is read coefficient by coefficient.
-use Rattle.std.proofs.Common.{◌≡◌, ℕ, ◌+◌, ◌*◌, ◌<◌, ◌≤◌, List, length, length-set, get_or, set, get_or-set_same, get_or-set_other, sym, ap, subst, ◌∙◌, inl, inr, arith}
+use Rattle.std.proofs.Common.{◌≡◌, ℕ, ◌+◌, ◌*◌, ◌<◌, List, length, length-set, get_or, set, get_or-set_same, get_or-set_other, sym, ap, ◌∙◌, inl, inr, arith}
 use Rattle.std.proofs.lemmas.Bool.{cases_eq}
 use Rattle.co_ring.specs.Polynomials.{Polynomial}
 use Rattle.co_ring.specs.declared.moduli.Modulus.TheVariants.{First, Second}
-use Rattle.co_wire.specs.Bodies.{residue_at, modulus_at}
+use Rattle.co_wire.specs.Bodies.{residue_at}
 use Rattle.co_wire.specs.Parts.{AreInRangeTo}
-use Rattle.co_wire.proofs.Fronts.{range-next, range-at}
+use Rattle.co_wire.proofs.Fronts.{range-at}
 
 -- the first k coefficients have their residues
 pub record ArePut (n : ℕ) (body : List ℕ) (from k : ℕ) (first second : Polynomial) : Type 0 where

@@ -1,5 +1,5 @@
 -- Parts of a body, from the front on.
-use Rattle.std.proofs.Common.{◌≡◌, ℕ, ◌+◌, ◌*◌, ◌%◌, ◌<◌, ◌≤◌, cond, eqb, refl, sym, ap, subst, ◌∙◌, ⊎_elim, arith, List, [], ◌++◌, length, take, append_assoc, Result, Ok, Err}
+use Rattle.std.proofs.Common.{◌≡◌, ℕ, ◌+◌, ◌*◌, ◌%◌, ◌<◌, ◌≤◌, cond, eqb, sym, ap, subst, ◌∙◌, ⊎_elim, arith, List, [], ◌++◌, length, take, append_assoc, Result, Ok, Err}
 use Rattle.std.specs.Prelude.{IfErr}
 use Rattle.std.proofs.lemmas.Bool.{cases_lt}
 use Rattle.std.proofs.lemmas.List.{take_all, append-nil}

@@ -1,5 +1,5 @@
 -- Keys that are read pair by pair, and one after another.
-use Rattle.std.proofs.Common.{◌≡◌, ℕ, ◌+◌, ◌-◌, ◌*◌, ◌/◌, ◌%◌, ◌^◌, ◌<◌, ◌≤◌, refl, sym, ap, subst, ◌∙◌, arith, List, [], ◌∷◌, ◌++◌, length, length-append, get_or, take, map, append_assoc, Result, Ok, Err}
+use Rattle.std.proofs.Common.{◌≡◌, ℕ, ◌+◌, ◌*◌, ◌/◌, ◌%◌, ◌^◌, ◌<◌, ◌≤◌, refl, sym, ap, subst, ◌∙◌, arith, List, [], ◌∷◌, ◌++◌, length, length-append, get_or, take, map, append_assoc, Result, Ok, Err}
 use Rattle.std.specs.Prelude.{All, IfOk}
 use Rattle.std.specs.List.{flat_map, range_with_len}
 use Rattle.std.proofs.Math.Nat.{mul-le-mul_right}
@@ -16,7 +16,7 @@ use Rattle.co_switch.specs.Keys.{Key, Keys, IsKey, AreKeysOf, key_degree, keys_d
 use Rattle.co_switch.proofs.Elements.{half_of, levels-le}
 use Rattle.co_wire.specs.declared.fault.WireFault.{WireFault}
 use Rattle.co_wire.specs.Bodies.{polynomial_bytes, pairs_bytes, key_bytes, SpellsKeys}
-use Rattle.co_wire.specs.Parts.{AreInRangeTo, SpellsBetween, AreEach, AreReadKeys, IsSetRead}
+use Rattle.co_wire.specs.Parts.{AreInRangeTo, SpellsBetween, AreReadKeys, IsSetRead}
 use Rattle.co_wire.proofs.Fronts.{spells-none, spells-then, spells-to, spells-all}
 
 -- one pair more

@@ -31,18 +31,19 @@ use Rattle.coeus.specs.Runs.{Keeps, Due, Answered, RefusedBy, Ran}
 
 -- ---- refusals of the steps
 
--- the corpus of `plain` isn't read
-pub plain_unread : (p : PlainWords) (was is : Outside) (refusal : Refusal) → ReadCause p.corpus was.files is.files refusal
-    → is.out.bytes ≡ was.out.bytes → is.files.held ≡ was.files.held → RefusedBy (SpokenPlain p) was is refusal
+-- that the corpus of this name isn't read is a refusal of the command
+abbrev pub RefusesUnread : Spoken → List ℕ → Type 0
+RefusesUnread command name = (was is : Outside) (refusal : Refusal) → ReadCause name was.files is.files refusal
+    → is.out.bytes ≡ was.out.bytes → is.files.held ≡ was.files.held → RefusedBy command was is refusal
+
+pub plain_unread : (p : PlainWords) → RefusesUnread (SpokenPlain p) p.corpus
 plain_unread p was is (Corpus fault) cause out files = record { cause = cause; out = out; files = files }
 plain_unread p was is CorpusTooLong cause out files = record { cause = cause; out = out; files = files }
 plain_unread p was is (File Read) cause out files = record { cause = cause; out = out; files = files }
 plain_unread p was is Memory cause out files = record { cause = cause; out = out; files = files }
 plain_unread p was is refusal cause out files = absurd cause
 
--- the corpus of `import` isn't read
-pub import_unread : (i : ImportWords) (was is : Outside) (refusal : Refusal) → ReadCause i.corpus was.files is.files refusal
-    → is.out.bytes ≡ was.out.bytes → is.files.held ≡ was.files.held → RefusedBy (SpokenImport i) was is refusal
+pub import_unread : (i : ImportWords) → RefusesUnread (SpokenImport i) i.corpus
 import_unread i was is (Corpus fault) cause out files = record { cause = cause; out = out; files = files }
 import_unread i was is CorpusTooLong cause out files = record { cause = cause; out = out; files = files }
 import_unread i was is (File Read) cause out files = record { cause = cause; out = out; files = files }

@@ -32,6 +32,10 @@ sink_state bytes faults = record { bytes = bytes; faults = faults }
 abbrev pub outside : FilesState → SinkState → Outside
 outside files out = record { files = files; out = out }
 
+abbrev pub outside_of : Option Folder → ℕ → Option FileCall → Option (List ℕ) → ℕ → Outside
+outside_of held faults last_failed bytes put_faults =
+    outside (files_state held faults last_failed) (sink_state bytes put_faults)
+
 -- ---- what changed
 
 -- a sink took these bytes, whole

@@ -1,4 +1,4 @@
-// The program's limits, and what stands for an option that isn't given.
+//! The program's limits, and what stands for an option that isn't given.
 
 /// The most bytes of a corpus file.
 pub const MAX_CORPUS: u64 = 268_435_456;

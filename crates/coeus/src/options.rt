@@ -1,4 +1,4 @@
-// Numbers and options among the words of the command line.
+//! Numbers and options among the words of the command line.
 ghost use Rattle.std.specs.Prelude.{◌≡◌, ◌≤◌, string_bytes, map, option_map, true, length};
 ghost use Rattle.std.specs.Char.{is_ascii_digit};
 ghost use Rattle.std.specs.List.{list_all};
@@ -13,11 +13,17 @@ use crate::limits::{DEFAULT_PICK, MAX_PICK, SHORT_DIGITS};
 /// The options that were given, each with its number.
 #[derive(Clone, Copy)]
 pub struct Options {
+    /// How many coefficients a polynomial has.
     pub degree: Option<u32>,
+    /// The most terms of the vocabulary.
     pub terms: Option<u32>,
+    /// The most hits of a search.
     pub hits: Option<u32>,
+    /// What the buckets of a document are hashed with.
     pub salt: Option<u32>,
+    /// The fewest chunks of a bin.
     pub chunks: Option<u32>,
+    /// The rank of the hit whose document is given.
     pub pick: Option<u32>,
 }
 

@@ -1,7 +1,7 @@
-// The top call: all that the program does.
+//! The top call: all that the program does.
 ghost use Rattle.std.specs.Prelude.{map, string_bytes};
 ghost use Rattle.coeus.specs.Commands.{command_shown};
-ghost use Rattle.coeus.specs.Outside.{files_state, sink_state, outside};
+ghost use Rattle.coeus.specs.Outside.{sink_state, outside_of};
 ghost use Rattle.coeus.specs.Runs.{Ended, Ran};
 
 use crate::plain::plain;
@@ -20,13 +20,11 @@ fn execute<F: Files, O: Sink>(
     files: &mut F,
     out: &mut O,
 ) -> Result<(), Refusal>
-    ensures { let was = outside
-        (files_state (F.held files.old) (F.faults files.old) (F.last_failed files.old))
-        (sink_state (O.put_so_far out.old) (O.faults out.old)) in
-        let is = outside
-        (files_state (F.held files.new) (F.faults files.new) (F.last_failed files.new))
-        (sink_state (O.put_so_far out.new) (O.faults out.new)) in
-        Ended (command_shown command.now) was is result }
+    ensures { Ended (command_shown command.now)
+        (outside_of (F.held files.old) (F.faults files.old) (F.last_failed files.old)
+        (O.put_so_far out.old) (O.faults out.old))
+        (outside_of (F.held files.new) (F.faults files.new) (F.last_failed files.new)
+        (O.put_so_far out.new) (O.faults out.new)) result }
 {
     match command {
         Command::Plain(command) => plain(alloc, command, files, out),
@@ -46,12 +44,10 @@ pub fn run<T: Threads + Sync, F: Files, O: Sink, E: Sink>(
     out: &mut O,
     err: &mut E,
 ) -> u8
-    ensures { let was = outside
-        (files_state (F.held files.old) (F.faults files.old) (F.last_failed files.old))
-        (sink_state (O.put_so_far out.old) (O.faults out.old)) in
-        let is = outside
-        (files_state (F.held files.new) (F.faults files.new) (F.last_failed files.new))
-        (sink_state (O.put_so_far out.new) (O.faults out.new)) in
+    ensures { let was = outside_of (F.held files.old) (F.faults files.old) (F.last_failed files.old)
+        (O.put_so_far out.old) (O.faults out.old) in
+        let is = outside_of (F.held files.new) (F.faults files.new) (F.last_failed files.new)
+        (O.put_so_far out.new) (O.faults out.new) in
         let err_was = sink_state (E.put_so_far err.old) (E.faults err.old) in
         let err_is = sink_state (E.put_so_far err.new) (E.faults err.new) in
         Ran (map string_bytes words.now) was is err_was err_is result }

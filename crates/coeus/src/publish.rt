@@ -1,8 +1,8 @@
-// The command `import`: publishes a corpus as a library file.
+//! The command `import`: publishes a corpus as a library file.
 ghost use Rattle.std.specs.Prelude.{◌≡◌, IfOk, string_bytes};
 ghost use Rattle.coeus.specs.Words.{SpokenImport};
 ghost use Rattle.coeus.specs.Commands.{import_shown};
-ghost use Rattle.coeus.specs.Outside.{files_state, sink_state, outside};
+ghost use Rattle.coeus.specs.Outside.{outside_of};
 ghost use Rattle.coeus.specs.Imports.{import_text};
 ghost use Rattle.coeus.specs.Runs.{Ended};
 
@@ -36,13 +36,11 @@ pub fn import<F: Files, O: Sink>(
     files: &mut F,
     out: &mut O,
 ) -> Result<(), Refusal>
-    ensures { let was = outside
-        (files_state (F.held files.old) (F.faults files.old) (F.last_failed files.old))
-        (sink_state (O.put_so_far out.old) (O.faults out.old)) in
-        let is = outside
-        (files_state (F.held files.new) (F.faults files.new) (F.last_failed files.new))
-        (sink_state (O.put_so_far out.new) (O.faults out.new)) in
-        Ended (SpokenImport (import_shown command.now)) was is result }
+    ensures { Ended (SpokenImport (import_shown command.now))
+        (outside_of (F.held files.old) (F.faults files.old) (F.last_failed files.old)
+        (O.put_so_far out.old) (O.faults out.old))
+        (outside_of (F.held files.new) (F.faults files.new) (F.last_failed files.new)
+        (O.put_so_far out.new) (O.faults out.new)) result }
 {
     let corpus = read_documents(alloc, command.corpus, files)?;
     let library = match publish(alloc, &corpus, &command.settings) {

@@ -1,4 +1,4 @@
-// Why the program refuses, with which status, and the line that it puts on the error output.
+//! Why the program refuses, with which status, and the line that it puts on the error output.
 ghost use Rattle.std.specs.Prelude.{◌≡◌, ◌≤◌, map, string_bytes};
 ghost use Rattle.co_link.specs.Causes.{Rose};
 ghost use Rattle.co_link.specs.Held.{TookWhole};

@@ -1,4 +1,4 @@
-// The command `shape`: the noise bounds of published numbers, and the test.
+//! The command `shape`: the noise bounds of published numbers, and the test.
 ghost use Rattle.std.specs.Prelude.{◌≡◌, ◌++◌, [], ◌∷◌, IfOk, OnOk, codes};
 ghost use Rattle.co_noise.specs.Bounds.{test_of};
 ghost use Rattle.coeus.specs.Words.{SpokenShape};

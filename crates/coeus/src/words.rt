@@ -1,4 +1,4 @@
-// The words of the command line: a command, its positional words, options in any order, a query.
+//! The words of the command line: a command, its positional words, options in any order, a query.
 ghost use Rattle.std.specs.Prelude.{◌≡◌, ◌++◌, IfOk, string_bytes, map, option_map};
 ghost use Rattle.coeus.specs.Words.{plain_words, import_words, settings_of, shape_words};
 ghost use Rattle.coeus.specs.Words.{spoken, joined};

@@ -80,8 +80,8 @@ returns-clause-value g c =
 
 pub returns-clause-one_degree : goal.returns-clause-one_degree
 returns-clause-one_degree g c =
-    let end = at_end c.args.keys.now c.loop-r.r c.subtree_count-r-end.result c.subtree_count-r-end.ensures (λ some. omega arith) (omega arith) in
-    root-degree c.args.keys.now c.args.query.now c.rotations.ensures.keys c.degree.ensures.ciphertext c.requires c.loop-r.r c.loop-r.roots.items c.args.steps.now c.loop-r.steps c.loop-r.invariant (omega arith)
+    root-degree c.args.keys.now c.args.query.now c.rotations.ensures.keys c.degree.ensures.ciphertext c.requires c.loop-r.r c.loop-r.roots.items c.args.steps.now c.loop-r.steps c.loop-r.invariant
+    (omega (arith, at_end c.args.keys.now c.loop-r.r c.subtree_count-r-end.result c.subtree_count-r-end.ensures (λ some. omega arith) (omega arith)))
 
 pub returns-clause-steps : goal.returns-clause-steps
 returns-clause-steps g c =

@@ -2,7 +2,6 @@ use Rattle.std.proofs.Common.{ℕ, ◌≡◌, ◌∙◌, length, sym, ap}
 use Rattle.co_math.specs.Parameters.{q}
 use Rattle.co_math.specs.Coefficients.{residues_of, signed_coefficients}
 use Rattle.co_bfv.specs.Draws.{uniform_draw, error_draw}
-use Rattle.co_math.proofs.Residue_lists.{length-residues_of}
 use Rattle.co_switch.proofs.Adding.{pair_is}
 use Rattle.co_switch.proofs.Drawing.{length-uniform}
 use Rattle.co_switch.proofs.making.make_pair.Goals as goal
@@ -10,16 +9,6 @@ use Rattle.co_switch.proofs.making.make_pair.Goals as goal
 -- the degree, by each of the values
 pub mul-requires : goal.mul-requires
 mul-requires g c = sym (ap length c.in_ok-uniform.ensures.value ∙ length-uniform c.of-degree.result (g.R.Rng.stream c.args.rng.now) ∙ c.of-degree.ensures ∙ c.degree.ensures.value)
-
-pub sub_in-requires : goal.sub_in-requires
-sub_in-requires g c =
-    c.in_ok-mul.ensures.len ∙ ap length c.in_ok-uniform.ensures.value ∙ length-uniform c.of-degree.result (g.R.Rng.stream c.args.rng.now)
-    ∙ sym (ap length c.in_ok-sum.ensures.value ∙ length-residues_of q c.of-degree.result (signed_coefficients (error_draw c.of-degree.result (g.R.Rng.stream c.sample_uniform.new.rng)).0))
-
-pub add_in-requires : goal.add_in-requires
-add_in-requires g c =
-    c.requires ∙ sym (c.sub_in.ensures.len ∙ ap length c.in_ok-sum.ensures.value
-    ∙ length-residues_of q c.of-degree.result (signed_coefficients (error_draw c.of-degree.result (g.R.Rng.stream c.sample_uniform.new.rng)).0) ∙ c.of-degree.ensures ∙ c.degree.ensures.value)
 
 pub returns-clause-first : goal.returns-clause-first
 returns-clause-first g c =

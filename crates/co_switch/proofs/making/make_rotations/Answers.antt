@@ -13,10 +13,7 @@ pub make_key-requires-clause-within : goal.make_key-requires-clause-within
 make_key-requires-clause-within g c = subst (λ (m : ℕ). c.rotation_element-element.result < 2 * m) (sym c.requires.one_degree) c.rotation_element-element.ensures.within
 
 pub loop-index-preserved : goal.loop-index-preserved
-loop-index-preserved g c =
-    keys_more c.args.secret.now (rotation_element (length c.args.secret.now)) c.loop-index.index (g.R.Rng.stream c.args.rng.now) (g.R.Rng.stream c.loop-index.rng) (g.R.Rng.stream c.make_key.new.rng)
-    c.loop-index.keys.items c.push.new.self.items c.in_ok-make_key.field-0 c.rotation_element-element.result c.loop-index.invariant
-    (c.rotation_element-element.ensures.value ∙ ap (λ (m : ℕ). rotation_element m c.loop-index.index) (sym c.requires.one_degree)) c.in_ok-make_key.ensures.value c.in_ok-make_key.ensures.rest c.in_ok-push.ensures.items
+loop-index-preserved g c = keys_more _ _ _ _ _ _ _ _ _ _ c.loop-index.invariant (c.rotation_element-element.ensures.value ∙ ap (λ (m : ℕ). rotation_element m c.loop-index.index) (sym c.requires.one_degree)) c.in_ok-make_key.ensures.value c.in_ok-make_key.ensures.rest c.in_ok-push.ensures.items
 
 pub returns-clause-value : goal.returns-clause-value
 returns-clause-value g c =

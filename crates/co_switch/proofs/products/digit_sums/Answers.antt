@@ -25,7 +25,7 @@ add_product-requires-clause-a_degree c =
 pub add_product-requires-clause-b_degree : goal.add_product-requires-clause-b_degree
 add_product-requires-clause-b_degree c =
     let f = c.loop-index.invariant.first in
-    ap spectrum_degree c.index-values0-index.is ∙ c.requires.values0.degree c.loop-index.index c.index-values0-index.result c.loop-index-test.true ∙ sym f.len
+    ap spectrum_degree c.index-values0-index.is ∙ c.requires.values0.degree c.loop-index.index c.index-values0-index.result (omega (arith, c.loop-index-test.true)) ∙ sym f.len
 
 pub add_product-requires-in-loop-index-clause-a_degree : goal.add_product-requires-in-loop-index-clause-a_degree
 add_product-requires-in-loop-index-clause-a_degree c =
@@ -37,7 +37,7 @@ add_product-requires-in-loop-index-clause-a_degree c =
 pub add_product-requires-in-loop-index-clause-b_degree : goal.add_product-requires-in-loop-index-clause-b_degree
 add_product-requires-in-loop-index-clause-b_degree c =
     let f = c.loop-index.invariant.second in
-    ap spectrum_degree c.index-values1-index.is ∙ c.requires.values1.degree c.loop-index.index c.index-values1-index.result c.loop-index-test.true ∙ sym f.len
+    ap spectrum_degree c.index-values1-index.is ∙ c.requires.values1.degree c.loop-index.index c.index-values1-index.result (omega (arith, c.loop-index-test.true)) ∙ sym f.len
 
 pub loop-index-preserved : goal.loop-index-preserved
 loop-index-preserved c =
@@ -49,9 +49,9 @@ loop-index-preserved c =
     record {
       digits_are = c.to_spectrum.ensures.same ∙ h.digits_are;
       values_degree = spectrum-len n (coefficients (digit_polynomial i c.args.poly.now)) c.to_spectrum.new.into v;
-      first = gathered_more n i c.args.poly.now c.args.values0.now c.loop-index.sum0 c.add_product.new.self c.to_spectrum.new.into c.index-values0-index.result c.index-values0-index.result d c.requires.one_degree c.loop-index-test.true h.first v
+      first = gathered_more n i c.args.poly.now c.args.values0.now c.loop-index.sum0 c.add_product.new.self c.to_spectrum.new.into c.index-values0-index.result c.index-values0-index.result d c.requires.one_degree (omega (arith, c.loop-index-test.true)) h.first v
           c.index-values0-index.is c.add_product.ensures;
-      second = gathered_more n i c.args.poly.now c.args.values1.now c.loop-index.sum1 c.add_product-in-loop-index.new.self c.to_spectrum.new.into c.index-values1-index.result c.index-values1-index.result d c.requires.one_degree c.loop-index-test.true h.second v
+      second = gathered_more n i c.args.poly.now c.args.values1.now c.loop-index.sum1 c.add_product-in-loop-index.new.self c.to_spectrum.new.into c.index-values1-index.result c.index-values1-index.result d c.requires.one_degree (omega (arith, c.loop-index-test.true)) h.second v
           c.index-values1-index.is c.add_product-in-loop-index.ensures;
     }
 

@@ -10,29 +10,15 @@ bounds-quotients-node c = let u = node_below (length c.args.roots.now) 2 c.args.
 
 pub four-requires : goal.four-requires
 four-requires c =
-    let n = length c.args.roots.now in
-    record {
-      modulus = c.requires.modulus;
-      whole = omega arith;
-      below = layer_within _ _ _ _ _ _ _ c.block.ensures (omega arith);
-      room = omega (arith, c.requires.room);
-      of = c.requires.of;
-      node = left_block n 2 c.args.node c.requires.node;
-      factors = c.requires.factors;
-    }
+    let below = layer_within _ _ _ _ _ _ _ c.block.ensures (omega arith) in
+    let node = left_block (length c.args.roots.now) 2 c.args.node c.requires.node in
+    record { modulus = c.requires.modulus; whole = omega arith; below = below; room = omega (arith, c.requires.room); of = c.requires.of; node = node; factors = c.requires.factors }
 
 pub four-requires-2 : goal.four-requires-2
 four-requires-2 c =
-    let n = length c.args.roots.now in
-    record {
-      modulus = c.requires.modulus;
-      whole = omega arith;
-      below = layer_within_high _ _ _ _ _ _ _ c.block.ensures (omega arith);
-      room = omega (arith, c.requires.room);
-      of = c.requires.of;
-      node = right_block n 2 c.args.node c.requires.node;
-      factors = c.requires.factors;
-    }
+    let below = layer_within_high _ _ _ _ _ _ _ c.block.ensures (omega arith) in
+    let node = right_block (length c.args.roots.now) 2 c.args.node c.requires.node in
+    record { modulus = c.requires.modulus; whole = omega arith; below = below; room = omega (arith, c.requires.room); of = c.requires.of; node = node; factors = c.requires.factors }
 
 pub returns-clause-reduced : goal.returns-clause-reduced
 returns-clause-reduced c = both_within _ _ _ c.four.ensures.reduced c.four-2.ensures.reduced

@@ -1,9 +1,9 @@
-use Rattle.std.proofs.Common.{◌≡◌, ◌<◌, ◌^◌, get_or, sym, ap, ◌∙◌, arith}
+use Rattle.std.proofs.Common.{◌<◌, ◌^◌, get_or, sym, ap, ◌∙◌, arith}
 use Rattle.std.proofs.lemmas.Grind.{get_or_default_zero}
 use Rattle.co_math.specs.Exponents.{place}
 use Rattle.co_transform.proofs.Reversals.{place-lt, place-place}
 use Rattle.co_ring.specs.Spectra.{Values}
-use Rattle.co_ring.proofs.Orderings.{in_order-get, view_length, same_levels}
+use Rattle.co_ring.proofs.Orderings.{in_order-get, view_length, own_levels}
 use Rattle.co_ring.proofs.spectra.Spectrum.leaf.Goals as goal
 
 pub index-requires : goal.index-requires
@@ -14,11 +14,9 @@ index-requires c =
 pub returns : goal.returns
 returns c = λ l size.
     let s = c.self.inside in
-    let at = c.args.at in
     let view = ap (λ (v : Values). v.values) c.self.view_is in
-    let own = view_length s.levels s.leaves.items c.args.self.now.values view in
-    let levels : s.levels ≡ l = same_levels s.levels l (sym own ∙ size) in
-    let within : at < 2 ^ s.levels = omega (arith, c.requires, own) in
-    let read = c.index.ensures ∙ get_or_default_zero s.leaves.items at c.index.result.now (omega (arith, within, c.self.invariant.len)) in
-    read ∙ ap (λ p. get_or s.leaves.items p 0) (sym (place-place s.levels at within)) ∙ sym (in_order-get s.levels (place s.levels at) s.leaves.items (place-lt s.levels at))
-    ∙ ap (λ values. get_or values (place s.levels at) 0) view ∙ ap (λ k. get_or c.args.self.now.values (place k at) 0) levels
+    let levels = own_levels s.levels l s.leaves.items c.args.self.now.values view size in
+    let within : c.args.at < 2 ^ s.levels = omega (arith, c.requires, view_length s.levels s.leaves.items c.args.self.now.values view) in
+    let read = c.index.ensures ∙ get_or_default_zero s.leaves.items c.args.at c.index.result.now (omega (arith, within, c.self.invariant.len)) in
+    read ∙ ap (λ p. get_or s.leaves.items p 0) (sym (place-place s.levels c.args.at within)) ∙ sym (in_order-get s.levels (place s.levels c.args.at) s.leaves.items (place-lt s.levels c.args.at))
+    ∙ ap (λ values. get_or values (place s.levels c.args.at) 0) view ∙ ap (λ k. get_or c.args.self.now.values (place k c.args.at) 0) levels

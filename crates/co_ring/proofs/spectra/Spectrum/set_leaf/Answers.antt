@@ -3,7 +3,7 @@ use Rattle.co_math.specs.Exponents.{place}
 use Rattle.co_transform.proofs.Reversals.{place-lt, place-place}
 use Rattle.co_ring.specs.Moduli.{value_of}
 use Rattle.co_ring.specs.Spectra.{Values, in_order}
-use Rattle.co_ring.proofs.Orderings.{in_order-set, set_leaves, view_length, same_levels}
+use Rattle.co_ring.proofs.Orderings.{in_order-set, set_leaves, view_length, own_levels}
 use Rattle.co_ring.proofs.spectra.Spectrum.set_leaf.Goals as goal
 
 pub index_mut-requires : goal.index_mut-requires
@@ -20,13 +20,11 @@ invariant_of-self c =
 pub returns : goal.returns
 returns c = λ l size.
     let s = c.self.inside in
-    let at = c.args.at in
     let own = ap (λ (v : Values). v.values) c.self.view_is in
-    let own_n = view_length s.levels s.leaves.items c.args.self.now.values own in
-    let levels : s.levels ≡ l = same_levels s.levels l (sym own_n ∙ size) in
-    let within : at < 2 ^ s.levels = omega (arith, c.requires.in_range, own_n) in
-    let moved : in_order s.levels (set s.leaves.items at c.args.value) ≡ set c.args.self.now.values (place l at) c.args.value =
-    ap (λ p. in_order s.levels (set s.leaves.items p c.args.value)) (sym (place-place s.levels at within))
-    ∙ in_order-set s.levels (place s.levels at) c.args.value s.leaves.items c.self.invariant.len (place-lt s.levels at)
-    ∙ (λ i. set (own i) (place (levels i) at) c.args.value) in
+    let levels = own_levels s.levels l s.leaves.items c.args.self.now.values own size in
+    let within : c.args.at < 2 ^ s.levels = omega (arith, c.requires.in_range, view_length s.levels s.leaves.items c.args.self.now.values own) in
+    let moved : in_order s.levels (set s.leaves.items c.args.at c.args.value) ≡ set c.args.self.now.values (place l c.args.at) c.args.value =
+    ap (λ p. in_order s.levels (set s.leaves.items p c.args.value)) (sym (place-place s.levels c.args.at within))
+    ∙ in_order-set s.levels (place s.levels c.args.at) c.args.value s.leaves.items c.self.invariant.len (place-lt s.levels c.args.at)
+    ∙ (λ i. set (own i) (place (levels i) c.args.at) c.args.value) in
     λ i. record { modulus = (ap (λ (v : Values). v.modulus) c.self.view_is) i; values = moved i }

@@ -5,34 +5,18 @@ use Rattle.co_ring.specs.Spectra.{Values, in_order}
 use Rattle.co_ring.specs.Product_sums.{Sums, AreSumLeaves}
 use Rattle.co_ring.proofs.Keeping.{written_back}
 use Rattle.co_ring.proofs.Transforms.{below_within}
-use Rattle.co_ring.proofs.Orderings.{view_length, same_levels, in_order-length}
+use Rattle.co_ring.proofs.Orderings.{view_length, one_levels, same_levels, in_order-length}
 use Rattle.co_ring.proofs.Summing.{gathered_in_order}
 use Rattle.co_ring.proofs.sums.ProductSum.add_product.Goals as goal
 
 pub gather-requires-clause-first : goal.gather-requires-clause-first
 gather-requires-clause-first c =
-    let t = c.self.inside in
-    let l = t.levels in
-    let n = length c.args.self.now.values in
-    let own = ap (λ (s : Sums). s.values) c.self.view_is in
-    let own_n = view_length l t.leaves.items c.args.self.now.values own in
-    let its_a = ap (λ (s : Values). s.values) c.a.view_is in
-    let its_b = ap (λ (s : Values). s.values) c.b.view_is in
-    let one_a : 2 ^ c.a.inside.levels ≡ 2 ^ l = sym (view_length c.a.inside.levels c.a.inside.leaves.items c.args.a.now.values its_a) ∙ c.requires.a_degree ∙ own_n in
-    let one_b : 2 ^ c.b.inside.levels ≡ 2 ^ l = sym (view_length c.b.inside.levels c.b.inside.leaves.items c.args.b.now.values its_b) ∙ c.requires.b_degree ∙ own_n in
+    let one_a = one_levels c.self.inside.levels c.a.inside.levels c.self.inside.leaves.items c.a.inside.leaves.items c.args.self.now.values c.args.a.now.values (ap (λ (s : Sums). s.values) c.self.view_is) (ap (λ (s : Values). s.values) c.a.view_is) c.requires.a_degree in
     ap length c.deref.ensures.value ∙ c.a.invariant.len ∙ one_a ∙ sym c.self.invariant.len ∙ sym (ap length c.deref_mut.ensures.value)
 
 pub gather-requires-clause-second : goal.gather-requires-clause-second
 gather-requires-clause-second c =
-    let t = c.self.inside in
-    let l = t.levels in
-    let n = length c.args.self.now.values in
-    let own = ap (λ (s : Sums). s.values) c.self.view_is in
-    let own_n = view_length l t.leaves.items c.args.self.now.values own in
-    let its_a = ap (λ (s : Values). s.values) c.a.view_is in
-    let its_b = ap (λ (s : Values). s.values) c.b.view_is in
-    let one_a : 2 ^ c.a.inside.levels ≡ 2 ^ l = sym (view_length c.a.inside.levels c.a.inside.leaves.items c.args.a.now.values its_a) ∙ c.requires.a_degree ∙ own_n in
-    let one_b : 2 ^ c.b.inside.levels ≡ 2 ^ l = sym (view_length c.b.inside.levels c.b.inside.leaves.items c.args.b.now.values its_b) ∙ c.requires.b_degree ∙ own_n in
+    let one_b = one_levels c.self.inside.levels c.b.inside.levels c.self.inside.leaves.items c.b.inside.leaves.items c.args.self.now.values c.args.b.now.values (ap (λ (s : Sums). s.values) c.self.view_is) (ap (λ (s : Values). s.values) c.b.view_is) c.requires.b_degree in
     ap length c.deref-2.ensures.value ∙ c.b.invariant.len ∙ one_b ∙ sym c.self.invariant.len ∙ sym (ap length c.deref_mut.ensures.value)
 
 pub gather-requires-clause-a_below : goal.gather-requires-clause-a_below
@@ -71,16 +55,13 @@ pub returns : goal.returns
 returns c =
     let t = c.self.inside in
     let l = t.levels in
-    let n = length c.args.self.now.values in
     let own = ap (λ (s : Sums). s.values) c.self.view_is in
-    let own_n = view_length l t.leaves.items c.args.self.now.values own in
     let its_a = ap (λ (s : Values). s.values) c.a.view_is in
     let its_b = ap (λ (s : Values). s.values) c.b.view_is in
-    let one_a : 2 ^ c.a.inside.levels ≡ 2 ^ l = sym (view_length c.a.inside.levels c.a.inside.leaves.items c.args.a.now.values its_a) ∙ c.requires.a_degree ∙ own_n in
-    let one_b : 2 ^ c.b.inside.levels ≡ 2 ^ l = sym (view_length c.b.inside.levels c.b.inside.leaves.items c.args.b.now.values its_b) ∙ c.requires.b_degree ∙ own_n in
+    let own_n = view_length l t.leaves.items c.args.self.now.values own in
     let ys = c.gather.new.sums in
-    let level_a : c.a.inside.levels ≡ l = same_levels c.a.inside.levels l one_a in
-    let level_b : c.b.inside.levels ≡ l = same_levels c.b.inside.levels l one_b in
+    let level_a : c.a.inside.levels ≡ l = same_levels c.a.inside.levels l (one_levels c.self.inside.levels c.a.inside.levels c.self.inside.leaves.items c.a.inside.leaves.items c.args.self.now.values c.args.a.now.values own its_a c.requires.a_degree) in
+    let level_b : c.b.inside.levels ≡ l = same_levels c.b.inside.levels l (one_levels c.self.inside.levels c.b.inside.levels c.self.inside.leaves.items c.b.inside.leaves.items c.args.self.now.values c.args.b.now.values own its_b c.requires.b_degree) in
     let first : in_order l c.deref_mut.result.now ≡ c.args.self.now.values = ap (in_order l) c.deref_mut.ensures.value ∙ own in
     let second : in_order l c.deref.result.now ≡ c.args.a.now.values = (λ i. in_order (sym level_a i) (c.deref.ensures.value i)) ∙ its_a in
     let third : in_order l c.deref-2.result.now ≡ c.args.b.now.values = (λ i. in_order (sym level_b i) (c.deref-2.ensures.value i)) ∙ its_b in

@@ -1,32 +1,23 @@
-use Rattle.std.proofs.Common.{◌≡◌, ◌^◌, ℕ, List, length, sym, ap, subst, ◌∙◌}
+use Rattle.std.proofs.Common.{◌≡◌, ℕ, List, length, sym, ap, subst, ◌∙◌}
 use Rattle.co_ring.specs.Moduli.{value_of}
 use Rattle.co_ring.specs.Spectra.{Values, in_order, AreLeaves}
 use Rattle.co_ring.specs.Product_sums.{Sums, AreReduced}
 use Rattle.co_ring.proofs.Keeping.{written_back}
-use Rattle.co_ring.proofs.Orderings.{view_length, same_levels}
+use Rattle.co_ring.proofs.Orderings.{one_levels, same_levels}
 use Rattle.co_ring.proofs.Summing.{reduced_in_order, reduced_leaves}
 use Rattle.co_ring.proofs.sums.ProductSum.reduce.Goals as goal
 
 pub reduce_sums-requires-clause-one_length : goal.reduce_sums-requires-clause-one_length
 reduce_sums-requires-clause-one_length c =
-    let t = c.into.inside in
-    let s = c.self.inside in
-    let own = ap (λ (s : Sums). s.values) c.self.view_is in
-    let its = ap (λ (s : Values). s.values) c.into.view_is in
-    let own_n = view_length s.levels s.leaves.items c.args.self.now.values own in
-    let one : 2 ^ t.levels ≡ 2 ^ s.levels = sym (view_length t.levels t.leaves.items c.args.into.now.values its) ∙ c.requires.one_degree ∙ own_n in
-    let size : length c.deref.result.now ≡ 2 ^ s.levels = ap length c.deref.ensures.value ∙ c.self.invariant.len in
-    ap length c.deref_mut.ensures.value ∙ c.into.invariant.len ∙ one ∙ sym size
+    let one = one_levels c.self.inside.levels c.into.inside.levels c.self.inside.leaves.items c.into.inside.leaves.items c.args.self.now.values c.args.into.now.values (ap (λ (s : Sums). s.values) c.self.view_is) (ap (λ (s : Values). s.values) c.into.view_is) c.requires.one_degree in
+    ap length c.deref_mut.ensures.value ∙ c.into.invariant.len ∙ one ∙ sym c.self.invariant.len ∙ sym (ap length c.deref.ensures.value)
 
 pub invariant_of-into : goal.invariant_of-into
 invariant_of-into c =
     let t = c.into.inside in
     let s = c.self.inside in
-    let own = ap (λ (s : Sums). s.values) c.self.view_is in
-    let its = ap (λ (s : Values). s.values) c.into.view_is in
-    let own_n = view_length s.levels s.leaves.items c.args.self.now.values own in
-    let one : 2 ^ t.levels ≡ 2 ^ s.levels = sym (view_length t.levels t.leaves.items c.args.into.now.values its) ∙ c.requires.one_degree ∙ own_n in
-    let size : length c.deref.result.now ≡ 2 ^ s.levels = ap length c.deref.ensures.value ∙ c.self.invariant.len in
+    let one = one_levels c.self.inside.levels c.into.inside.levels c.self.inside.leaves.items c.into.inside.leaves.items c.args.self.now.values c.args.into.now.values (ap (λ (s : Sums). s.values) c.self.view_is) (ap (λ (s : Values). s.values) c.into.view_is) c.requires.one_degree in
+    let size = ap length c.deref.ensures.value ∙ c.self.invariant.len in
     let ys = c.reduce_sums.new.into in
     let same : t.modulus ≡ s.modulus = ap (λ (s : Values). s.modulus) c.into.view_is ∙ c.requires.one_modulus ∙ sym (ap (λ (s : Sums). s.modulus) c.self.view_is) in
     let by : c.reducer_of-by.result.q ≡ value_of t.modulus = c.reducer_of-by.ensures.modulus ∙ c.value.ensures.value ∙ ap value_of (sym same) in
@@ -39,10 +30,8 @@ returns-clause-values c =
     let t = c.into.inside in
     let s = c.self.inside in
     let own = ap (λ (s : Sums). s.values) c.self.view_is in
-    let its = ap (λ (s : Values). s.values) c.into.view_is in
-    let own_n = view_length s.levels s.leaves.items c.args.self.now.values own in
-    let one : 2 ^ t.levels ≡ 2 ^ s.levels = sym (view_length t.levels t.leaves.items c.args.into.now.values its) ∙ c.requires.one_degree ∙ own_n in
-    let size : length c.deref.result.now ≡ 2 ^ s.levels = ap length c.deref.ensures.value ∙ c.self.invariant.len in
+    let one = one_levels c.self.inside.levels c.into.inside.levels c.self.inside.leaves.items c.into.inside.leaves.items c.args.self.now.values c.args.into.now.values own (ap (λ (s : Values). s.values) c.into.view_is) c.requires.one_degree in
+    let size = ap length c.deref.ensures.value ∙ c.self.invariant.len in
     let ys = c.reduce_sums.new.into in
     let v = value_of c.args.self.now.modulus in
     let one_length : length c.deref_mut.result.now ≡ length c.deref.result.now = ap length c.deref_mut.ensures.value ∙ c.into.invariant.len ∙ one ∙ sym size in

@@ -1,11 +1,7 @@
-use Rattle.std.proofs.Common.{ℕ, ◌≡◌, length, sym, subst, ◌∙◌}
-use Rattle.co_math.specs.Parameters.{plain_modulus}
-use Rattle.co_math.specs.Coefficients.{coefficients, IsDegree}
+use Rattle.std.proofs.Common.{length, sym, subst, ◌∙◌}
+use Rattle.co_math.specs.Coefficients.{IsDegree}
 use Rattle.co_math.proofs.Degrees.{degree_positive}
-use Rattle.co_ring.specs.declared.moduli.Modulus.{Modulus}
-use Rattle.co_ring.specs.Moduli.{value_of}
-use Rattle.co_ring.specs.Spectra.{AreValues}
-use Rattle.co_slots.proofs.Placing.{slots_of_values}
+use Rattle.co_slots.proofs.Placing.{plain_values, slots_of_values}
 use Rattle.co_slots.proofs.slots.SlotTable.decode.Goals as goal
 
 pub gather-requires-clause-degree : goal.gather-requires-clause-degree
@@ -13,13 +9,7 @@ gather-requires-clause-degree c = subst IsDegree (c.degree.ensures.value ∙ c.r
 
 pub returns-clause-slots : goal.returns-clause-slots
 returns-clause-slots c =
-    let t = c.self.inside.table in
     let n = length c.args.into.now in
-    let xs = c.args.poly.now.coeffs in
-    let values = c.forward.new.into.values in
     let degree : IsDegree n = subst IsDegree (c.degree.ensures.value ∙ c.requires.scratch_degree ∙ sym c.requires.into_degree) c.degree.ensures.valid in
-    let size : t.degree ≡ n = c.self.view_is ∙ sym c.requires.into_degree in
-    let is : AreValues plain_modulus n (coefficients xs) values =
-    subst (λ (k : ℕ). AreValues plain_modulus k (coefficients xs) values) size
-    (subst (λ (m : Modulus). AreValues (value_of m) t.degree (coefficients xs) values) c.self.invariant.plain c.forward.ensures.values) in
-    slots_of_values n xs c.gather.new.into values (degree_positive n degree) (c.requires.one_degree ∙ sym c.requires.into_degree) c.gather.ensures.len is c.gather.ensures.values
+    let is = plain_values c.self.inside.table.modulus c.self.inside.table.degree n c.args.poly.now.coeffs c.forward.new.into.values c.self.invariant.plain (c.self.view_is ∙ sym c.requires.into_degree) c.forward.ensures.values in
+    slots_of_values n c.args.poly.now.coeffs c.gather.new.into c.forward.new.into.values (degree_positive n degree) (c.requires.one_degree ∙ sym c.requires.into_degree) c.gather.ensures.len is c.gather.ensures.values

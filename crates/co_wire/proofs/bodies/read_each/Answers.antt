@@ -1,0 +1,12 @@
+use Rattle.std.proofs.Common.{◌+◌, ◌*◌, ℕ, sym, subst}
+use Rattle.co_wire.proofs.Ciphered.{AreRead, one-read}
+use Rattle.co_wire.proofs.bodies.read_each.Goals as goal
+
+pub loop-i-preserved : goal.loop-i-preserved
+loop-i-preserved c =
+    let n = c.args.degree in
+    let i = c.loop-i.i in
+    let at = c.loop-i.at in
+    subst (λ (m : ℕ). AreRead n c.args.body.now (i + 1) (at + 4 * m) c.push.new.self.items) (sym c.get.ensures.value)
+    (one-read n c.args.body.now i at c.loop-i.ciphers.items c.push.new.self.items c.in_ok-cipher.cipher c.loop-i.invariant c.in-Ok.ensures.items
+    c.in_ok-cipher.ensures.cipher c.in_ok-cipher.ensures.degree c.in_ok-cipher.ensures.spelled c.in_ok-cipher.ensures.in_range)
