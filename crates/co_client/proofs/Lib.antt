@@ -1,5 +1,8 @@
+pub mod Results
 pub mod Spelled
+pub mod Ranged
 pub mod Opened
+pub mod Firsts
 pub mod Drawn
 pub mod Scores
 pub mod Sizes

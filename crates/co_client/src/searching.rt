@@ -14,7 +14,7 @@ ghost use Rattle.co_rounds.specs.Recording.{IsLibraryFor};
 ghost use Rattle.co_client.specs.Causes.{Search, Publishes, IsRead, IsCause, IsCauseUntold, IsAnswered, Asks};
 ghost use Rattle.co_client.specs.Plain.{AnswersPlainly};
 ghost use Rattle.co_client.specs.Faults.{IsManyTerms};
-ghost use Rattle.co_client.specs.Records.{hits_shown};
+ghost use Rattle.co_client.specs.Records.{hit_shown, hits_shown};
 
 use crate::fault::SearchFault;
 use crate::fetching::{bin_of, fetch, read_document};
@@ -24,7 +24,6 @@ use crate::recording::{gather, read_records};
 use crate::scoring::rank;
 use crate::starting::start;
 use co_link::Link;
-use co_list::Listed;
 use co_pack::Record;
 use co_text::{Found, Hit, Hits, QueryFault, Ranked, Terms, query_terms};
 use rand_core::Rng;
@@ -43,24 +42,25 @@ fn keywords_of(alloc: Global, query: &str) -> Result<Terms, SearchFault>
     }
 }
 
+/// A hit with the title of its record.
+fn with_title(ranked: &Ranked, record: &Record) -> Result<Hit, AllocError>
+    ensures { IfOk result (λ hit. hit ≡ hit_shown ranked.now record.now) }
+{
+    Ok(Hit {
+        document: ranked.document,
+        score: ranked.score,
+        title: record.title.copy()?,
+    })
+}
+
 /// Hits with the titles of their records.
-fn with_titles(
-    alloc: Global,
-    ranked: &[Ranked],
-    records: Listed<Record>,
-) -> Result<Hits, AllocError>
-    requires { length records ≡ length ranked.now }
-    ensures { IfOk result (λ hits. hits ≡ hits_shown ranked.now records) }
+fn with_titles(alloc: Global, ranked: &[Ranked], records: &[Record]) -> Result<Hits, AllocError>
+    requires { length records.now ≡ length ranked.now }
+    ensures { IfOk result (λ hits. hits ≡ hits_shown ranked.now records.now) }
 {
     let mut hits = Hits::with_capacity(alloc, ranked.len())?;
-    let mut at = 0;
-    for record in records.into_vec() {
-        hits.push(Hit {
-            document: ranked[at].document,
-            score: ranked[at].score,
-            title: record.title,
-        })?;
-        at += 1;
+    for at in 0..ranked.len() {
+        hits.push(with_title(&ranked[at], &records[at])?)?;
     }
     Ok(hits)
 }
@@ -145,7 +145,7 @@ pub fn search<K: Link, R: Rng>(
         Ok(document) => document,
         Err(fault) => return Err(fault),
     };
-    let Ok(hits) = with_titles(alloc, shown, records) else {
+    let Ok(hits) = with_titles(alloc, shown, records.as_slice()) else {
         return Err(SearchFault::OutOfMemory);
     };
     match placing {
