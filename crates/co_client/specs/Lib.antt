@@ -2,6 +2,7 @@ pub mod Faults
 pub mod Records
 pub mod Causes
 pub mod Plain
+pub mod Going
 pub mod Rounds
 pub mod Openings
 pub mod Placings

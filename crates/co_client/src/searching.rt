@@ -43,13 +43,13 @@ fn keywords_of(alloc: Global, query: &str) -> Result<Terms, SearchFault>
 }
 
 /// A hit with the title of its record.
-fn with_title(ranked: &Ranked, record: &Record) -> Result<Hit, AllocError>
-    ensures { IfOk result (λ hit. hit ≡ hit_shown ranked.now record.now) }
+fn with_title(ranked: &Ranked, read: &Record) -> Result<Hit, AllocError>
+    ensures { IfOk result (λ hit. hit ≡ hit_shown ranked.now read.now) }
 {
     Ok(Hit {
         document: ranked.document,
         score: ranked.score,
-        title: record.title.copy()?,
+        title: read.title.copy()?,
     })
 }
 
