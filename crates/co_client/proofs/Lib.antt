@@ -7,3 +7,11 @@ pub mod Drawn
 pub mod Scores
 pub mod Sizes
 pub mod Trails
+pub mod Exchanged
+pub mod Unique
+pub mod Asking
+pub mod Told
+pub mod Messages
+pub mod Ends
+pub mod RecordFaults
+pub mod Finishes
