@@ -9,7 +9,8 @@ pub mod Sizes
 pub mod Trails
 pub mod Exchanged
 pub mod Unique
-pub mod Asking
+pub mod Unanswered
+pub mod Placed
 pub mod Told
 pub mod Messages
 pub mod Ends
