@@ -1,0 +1,6 @@
+pub mod Exchanged
+pub mod Fresh_queries
+pub mod Honest_rounds
+pub mod Placed_hits
+pub mod Plain_hits
+pub mod Plain_records
