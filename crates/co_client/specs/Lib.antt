@@ -7,3 +7,4 @@ pub mod Openings
 pub mod Placings
 pub mod Published
 pub mod Scored
+pub mod Going

@@ -10,6 +10,7 @@
 mod asking;
 mod fault;
 mod fetching;
+pub mod laws;
 mod placing;
 mod publishing;
 mod querying;
