@@ -1,11 +1,10 @@
 -- The exchanges of a search by their numbers: what each asks, and under which keys it is honest.
-use Rattle.std.proofs.Common.{◌≡◌, ℕ, zero, suc, ◌+◌, ◌<◌, ◌≤◌, ◌⊎◌, inl, inr, cond, eqb, ◌&&◌, false, refl, sym, ap, subst, ◌∙◌, arith, List, [], ◌∷◌, ◌++◌, length, take, map, Option, Some, None, Ok, Err, Result, option_map}
+use Rattle.std.proofs.Common.{◌≡◌, ℕ, zero, suc, ◌+◌, ◌<◌, inl, inr, cond, eqb, ◌&&◌, false, refl, sym, ap, subst, ◌∙◌, arith, List, [], ◌∷◌, ◌++◌, length, take, map, Option, Some, None, Ok, Err, Result, option_map}
 use Rattle.std.specs.Prelude.{Bool, slice_get}
 use Rattle.std.proofs.lemmas.Option.{none-some, same_Some, some_pair_parts, slice_get-map, slice_get_within}
 use Rattle.std.proofs.lemmas.List.{nil_from_length}
 use Rattle.co_link.specs.declared.messages.Target.{Target}
 use Rattle.co_link.specs.declared.messages.Target.TheVariants.{Public, Keys as ForKeys, Score, Meta, Document}
-use Rattle.co_link.specs.declared.messages.Request.{Request}
 use Rattle.co_link.specs.declared.messages.Reply.{Reply}
 use Rattle.co_link.specs.declared.messages.Exchange.{Exchange}
 use Rattle.co_link.specs.Exchanges.{exchange_of}
@@ -18,7 +17,7 @@ use Rattle.co_rounds.specs.declared.answer.Answer.{Answer}
 use Rattle.co_rounds.specs.declared.answer.Answer.TheVariants.{Done, Length, NoKeys, Range, OutOfMemory}
 use Rattle.co_rounds.specs.Answers.{reply_with, reply_of, IsGoodRequest}
 use Rattle.co_rounds.specs.Honest.{IsHonest, AreHonest, is_for_keys, held_after}
-use Rattle.co_rounds.specs.Plans.{Seen, trace, targets, plan, planned, plan_of, FollowsPlan}
+use Rattle.co_rounds.specs.Plans.{Seen, targets, plan, planned, plan_of, FollowsPlan}
 use Rattle.co_rounds.proofs.Rounds.{public_told}
 use Rattle.co_rounds.proofs.OneAnswer.{good_answered}
 use Rattle.co_client.specs.Causes.{Publishes}

@@ -1,10 +1,10 @@
 -- What a search draws: its keys are good for its secret, and each of its queries is fresh for what it asks.
-use Rattle.std.proofs.Common.{◌≡◌, ℕ, zero, suc, ◌+◌, ◌*◌, ◌/◌, ◌<◌, ◌≤◌, refl, sym, ap, subst, ◌∙◌, arith, ℤ, List, [], ◌∷◌, length, get_or, map, replicate, All}
+use Rattle.std.proofs.Common.{◌≡◌, ℕ, zero, suc, ◌+◌, ◌<◌, ◌≤◌, refl, sym, ap, subst, ◌∙◌, arith, ℤ, List, [], ◌∷◌, length, get_or, map, replicate, All}
 use Rattle.std.proofs.lemmas.List.{length-map, length-set, length-replicate, get_or-map}
 use Rattle.std.proofs.lemmas.List.Elements.{All-head, All-tail, All-from_get_or}
 use Rattle.rand_core.specs.Stream.{Stream}
 use Rattle.co_math.specs.Parameters.{fresh_bound}
-use Rattle.co_math.specs.Coefficients.{coefficients, signed_coefficients, IsDegree}
+use Rattle.co_math.specs.Coefficients.{coefficients, signed_coefficients}
 use Rattle.co_math.specs.Logarithms.{log2_up}
 use Rattle.co_math.proofs.Residue_lists.{length-residues_of}
 use Rattle.co_noise.specs.Shapes.{Numbers, HasRanges, levels, keyword_blocks}
@@ -17,11 +17,11 @@ use Rattle.co_bfv.specs.Totals.{no_ciphertext, ciphertext_at}
 use Rattle.co_bfv.proofs.Drawn.{length-drawn, errors_small, secret-IsSecret, uniform-IsWhole}
 use Rattle.co_bfv.proofs.Combined.{residues_whole}
 use Rattle.co_bfv.proofs.Encrypted.{encrypted_means}
-use Rattle.co_switch.specs.Keys.{Keys, AreGoodKeys}
+use Rattle.co_switch.specs.Keys.{AreGoodKeys}
 use Rattle.co_switch.specs.Draws.{key_set_draw}
 use Rattle.co_switch.proofs.Elements.{Half, half_of}
 use Rattle.co_switch.proofs.Listing.{HasCounts, key_set_draw-AreKeys, key_set_draw-good, key_set_draw-counts}
-use Rattle.co_pir.specs.Messages.{inverse_power, query_polynomial}
+use Rattle.co_pir.specs.Messages.{inverse_power}
 use Rattle.co_wire.specs.Bodies.{keys_bytes, ciphers_bytes, AreCiphers, SpellsCiphers, AreKeysFor, SpellsKeys}
 use Rattle.co_wire.proofs.Keyed.{few_levels}
 use Rattle.co_rounds.specs.Asked.{Asked, IsAsked, asked_draw, encryptions_draw, row_message}

@@ -1,14 +1,12 @@
 -- A search over honest exchanges: its secret and keys open the library's replies, and of each round that was answered the
 -- request is the drawn one and the reply is honest under its keys.
-use Rattle.std.proofs.Common.{◌≡◌, ℕ, suc, ◌<◌, ◌≤◌, refl, sym, ap, subst, ◌∙◌, arith, ℤ, List, [], ◌∷◌, length, map, Option, Some, Result, Ok, option_map}
+use Rattle.std.proofs.Common.{◌≡◌, ℕ, suc, ◌≤◌, refl, sym, ap, ◌∙◌, arith, List, [], ◌∷◌, length, Option, Some, Result, Ok, option_map}
 use Rattle.std.specs.Prelude.{slice_get}
-use Rattle.std.proofs.lemmas.Option.{same_Some, slice_get-map}
+use Rattle.std.proofs.lemmas.Option.{same_Some, slice_get-map, slice_get_within}
 use Rattle.rand_core.specs.Stream.{Stream}
 use Rattle.co_link.specs.declared.messages.Target.{Target}
-use Rattle.co_link.specs.declared.messages.Target.TheVariants.{Public, Keys as ForKeys, Score, Meta, Document as ForDocument}
 use Rattle.co_link.specs.declared.messages.Exchange.{Exchange}
 use Rattle.co_link.specs.Exchanges.{exchange_of}
-use Rattle.co_math.specs.Coefficients.{signed_coefficients}
 use Rattle.co_noise.specs.Shapes.{HasRanges}
 use Rattle.co_noise.specs.Bounds.{HasRoom, test_of}
 use Rattle.co_noise.proofs.Ranges.{ranges}
@@ -26,7 +24,7 @@ use Rattle.co_library.specs.Libraries.{Parts}
 use Rattle.co_rounds.specs.Answers.{reply_with}
 use Rattle.co_rounds.specs.Honest.{IsHonest, AreHonest}
 use Rattle.co_rounds.specs.Plans.{targets, FollowsPlan}
-use Rattle.co_rounds.specs.Asked.{Asked, IsAsked, bodies_of}
+use Rattle.co_rounds.specs.Asked.{bodies_of}
 use Rattle.co_rounds.specs.Recording.{IsLibraryFor, CanBeOpened}
 use Rattle.co_client.specs.declared.fault.SearchFault.{SearchFault}
 use Rattle.co_client.specs.Causes.{Search, Publishes, Answered, Asks}
@@ -87,7 +85,14 @@ module _ {documents : List Document} {settings : Settings} {l : Parts} {held : O
       honest_under l held es j e (keys_bytes h.asks.asked.keys) h.honest (λ k x u. (sent k x u).0) h.goes.taken
       (λ x u. sym (same_Some (keys_bytes h.asks.asked.keys) x.request.body (body_at 1 x u))) at
 
-  -- a round that was answered
+  -- a round that was answered was made
+  pub made_within : (n count : ℕ) (t : Target) (replies : List Ciphertext) → Answered es n count t replies → place_of t < length es
+  made_within n count t replies a =
+      let e : Exchange = exchange_of a.request (reply_with 200 a.body) in
+      let here : a.number ≡ place_of t = place_is a.number t ((sent a.number e a.is).0 ∙ ap (λ (x : Target). Some x) a.target_is) in
+      omega (arith, here, slice_get_within es a.number e a.is)
+
+  -- and its reply is honest
   pub round : (n count : ℕ) (t : Target) (replies : List Ciphertext) (a : Answered es n count t replies) (j : ℕ) (body : List ℕ) → place_of t ≡ suc (suc j)
       → slice_get ([] ∷ bodies_of h.asks.asked) (suc (suc j)) ≡ Some body
       → IsHonest l (Some (keys_bytes h.asks.asked.keys)) (exchange_of (record { target = t; body = body }) (reply_with 200 a.body))

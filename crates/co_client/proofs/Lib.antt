@@ -1,3 +1,12 @@
+pub mod Results
+pub mod Spelled
+pub mod Ranged
+pub mod Opened
+pub mod Firsts
+pub mod Drawn
+pub mod Scores
+pub mod Sizes
+pub mod Trails
 pub mod Exchanged
 pub mod Fresh_queries
 pub mod Honest_rounds

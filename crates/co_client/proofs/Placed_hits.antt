@@ -1,7 +1,7 @@
 -- Where the hit of a rank is placed.
-use Rattle.std.proofs.Common.{◌≡◌, ℕ, ◌+◌, ◌<◌, ◌≤◌, refl, sym, ap, subst, ◌∙◌, arith, Bool, true, false, cond, eqb, List, [], length, get_or, map, Option, Some, None}
+use Rattle.std.proofs.Common.{◌≡◌, ℕ, ◌<◌, refl, sym, ap, subst, ◌∙◌, arith, Bool, true, false, cond, eqb, List, [], length, get_or, Option, Some, None}
 use Rattle.std.specs.Prelude.{nat_lt, slice_index, slice_index_or}
-use Rattle.std.specs.List.{position, position_or_len, range_with_len, Contains}
+use Rattle.std.specs.List.{position, position_or_len, Contains}
 use Rattle.std.specs.Option.{unwrap_or}
 use Rattle.std.proofs.lemmas.Bool.{ltb-false, eqb-true}
 use Rattle.std.proofs.lemmas.Bool.Decides.{nat_tests}

@@ -1,6 +1,5 @@
 -- Over honest exchanges the hits that are read are those of the plain answer, and each is one of the documents.
-use Rattle.std.proofs.Common.{◌≡◌, ℕ, ◌<◌, ◌≤◌, refl, sym, ap, subst, ◌∙◌, ℤ, List, length, get_or, map, All, Option, Some, Result}
-use Rattle.std.specs.Prelude.{slice_get}
+use Rattle.std.proofs.Common.{◌≡◌, ℕ, ◌<◌, refl, ap, ◌∙◌, List, length, All, Option, Result}
 use Rattle.std.proofs.lemmas.List.{length-map}
 use Rattle.rand_core.specs.Stream.{Stream}
 use Rattle.co_link.specs.declared.messages.Target.TheVariants.{Score}

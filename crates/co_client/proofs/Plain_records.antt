@@ -1,14 +1,12 @@
 -- Over honest exchanges each hit's record is that of its document, and names the place of its text.
-use Rattle.std.proofs.Common.{◌≡◌, ℕ, zero, suc, ◌+◌, ◌*◌, ◌<◌, ◌≤◌, refl, sym, ap, subst, ◌∙◌, arith, Bool, true, cond, eqb, ℤ, List, [], ◌∷◌, length, get_or, take, drop, map, Option, Some, None, Result, Ok, Err}
+use Rattle.std.proofs.Common.{◌≡◌, ℕ, zero, suc, ◌+◌, ◌*◌, ◌<◌, refl, sym, ap, subst, ◌∙◌, arith, true, cond, eqb, ℤ, List, [], ◌∷◌, length, get_or, take, drop, map, Option, Some, None, Result, Ok, Err}
 use Rattle.std.specs.Prelude.{slice_get}
-use Rattle.std.specs.List.{range_with_len}
 use Rattle.std.proofs.lemmas.Bool.Decides.{nat_tests}
 use Rattle.std.proofs.lemmas.Option.{none-some, same_Some, slice_get-get_or}
 use Rattle.std.proofs.lemmas.List.FromFn.{length-map-range_with_len}
 use Rattle.rand_core.specs.Stream.{Stream}
 use Rattle.co_link.specs.declared.messages.Target.TheVariants.{Meta}
 use Rattle.co_link.specs.declared.messages.Exchange.{Exchange}
-use Rattle.co_noise.specs.Shapes.{Numbers}
 use Rattle.co_slots.specs.Payloads.{IsPayload}
 use Rattle.co_bfv.specs.Ciphertexts.{Ciphertext}
 use Rattle.co_bfv.specs.Totals.{ciphertext_at}
@@ -17,7 +15,6 @@ use Rattle.co_bucket.specs.Lists.{bucket_count}
 use Rattle.co_bucket.specs.Bytes.{record_chunks}
 use Rattle.co_bucket.specs.Placement.{IsPlacement}
 use Rattle.co_text.specs.declared.found.Found.{Found}
-use Rattle.co_text.specs.declared.found.Hit.{Hit}
 use Rattle.co_text.specs.declared.ranks.Ranked.{Ranked}
 use Rattle.co_text.specs.Terms.{distinct}
 use Rattle.co_text.specs.Numbers.{numbers_of}
@@ -32,7 +29,7 @@ use Rattle.co_library.specs.declared.settings.Settings.{Settings}
 use Rattle.co_library.specs.Libraries.{Parts}
 use Rattle.co_rounds.specs.Serving.{bucket_table}
 use Rattle.co_rounds.specs.Placing.{choices_of, no_hit, document_at, document_row, document_start, row_asked, rows_asked}
-use Rattle.co_rounds.specs.Recording.{ShowsDocument, AsksFor, is_within_bins, bucket_replies}
+use Rattle.co_rounds.specs.Recording.{ShowsDocument, AsksFor, bucket_replies}
 use Rattle.co_rounds.proofs.Rounds.{record_round}
 use Rattle.co_rounds.proofs.Recorded.{shows_document}
 use Rattle.co_rounds.proofs.Retrievable.{payload_small}
@@ -42,7 +39,7 @@ use Rattle.co_client.specs.Causes.{Search, Answered, ReadsHits, ReadsRecords}
 use Rattle.co_client.specs.Records.{◌>>=◌, opened_bytes, checked, record_read, records_read, bucket_of, hit_shown, hits_shown}
 use Rattle.co_client.proofs.Firsts.{opened-ok}
 use Rattle.co_client.proofs.Fresh_queries.{records_spelled, records_asked}
-use Rattle.co_client.proofs.Honest_rounds.{IsHonestSearch, has, has_room, spelled, can, round}
+use Rattle.co_client.proofs.Honest_rounds.{IsHonestSearch, has, has_room, spelled, can, made_within, round}
 use Rattle.co_client.proofs.Plain_hits.{hits_within}
 use Rattle.co_client.proofs.Placed_hits.{bucket_within, bucket_lists, row_is}
 
@@ -132,7 +129,7 @@ module _ {documents : List Document} {settings : Settings} {l : Parts} {held : O
     (placed : List (Option ℕ)) (p : IsPlacement (choices_of l.shape hits) (bucket_count l.shape.hits) placed)
     (replies : List Ciphertext) (a : Answered es l.shape.degree (bucket_count l.shape.hits * record_chunks l.shape.degree) Meta replies) where
   rows_are : h.asks.rows ≡ rows_asked l.shape hits placed
-  rows_are = h.asks.placed_rows hits placed ranked p
+  rows_are = h.asks.placed_rows (made_within h _ _ Meta replies a) hits placed ranked p
 
   rows_long : length h.asks.rows ≡ bucket_count l.shape.hits
   rows_long = ap length rows_are ∙ length-map-range_with_len (λ (b : ℕ). row_asked l.shape hits (get_or placed b None) b) 0 (bucket_count l.shape.hits)

@@ -1,5 +1,5 @@
 -- Over honest exchanges the picked document that is read is that of the plain answer.
-use Rattle.std.proofs.Common.{◌≡◌, ℕ, ◌+◌, ◌-◌, ◌*◌, ◌<◌, ◌≤◌, refl, sym, ap, subst, ◌∙◌, arith, Bool, true, false, cond, eqb, leb, ltb, ◌&&◌, ℤ, List, [], ◌∷◌, length, take, drop, map, Option, Some, None, Result, Ok, option_map}
+use Rattle.std.proofs.Common.{◌≡◌, ℕ, ◌+◌, ◌-◌, ◌*◌, ◌<◌, refl, sym, ap, ◌∙◌, arith, Bool, true, false, cond, eqb, ◌&&◌, ℤ, List, take, drop, map, Option, Some, None, Result, Ok, option_map}
 use Rattle.std.specs.Prelude.{slice_get, nat_lt, nat_le}
 use Rattle.std.proofs.lemmas.Bool.{ltb-true}
 use Rattle.std.proofs.lemmas.Option.{slice_get-map}
@@ -32,10 +32,10 @@ use Rattle.co_rounds.proofs.Rounds.{document_round}
 use Rattle.co_rounds.proofs.Retrievable.{payload_small}
 use Rattle.co_client.specs.declared.fault.SearchFault.{SearchFault}
 use Rattle.co_client.specs.Causes.{Search, Answered, ReadsRecords, ReadsPicked}
-use Rattle.co_client.specs.Records.{◌>>=◌, opened_bytes, text_read, picked_record, picked_read, bin_asked}
+use Rattle.co_client.specs.Records.{◌>>=◌, opened_bytes, text_read, picked_read, bin_asked}
 use Rattle.co_client.proofs.Firsts.{opened-ok}
 use Rattle.co_client.proofs.Fresh_queries.{document_spelled, document_asked}
-use Rattle.co_client.proofs.Honest_rounds.{IsHonestSearch, has, has_room, spelled, can, round}
+use Rattle.co_client.proofs.Honest_rounds.{IsHonestSearch, has, has_room, spelled, can, made_within, round}
 use Rattle.co_client.proofs.Plain_records.{IsRecordOf, AreRecordsOf, StandsAt, record_at, no_record_at}
 
 both_true : (a b : Bool) → (a && b) ≡ true → a ≡ true
@@ -98,4 +98,4 @@ pub picked_plain : {documents : List Document} {settings : Settings} {l : Parts}
     → IsHonestSearch documents settings l held r es result left → (hits : List Ranked) (records : List Record) → ReadsRecords r es l.shape l.terms hits (Ok records) → AreRecordsOf documents l hits records
     → (document : Result (Option (ℕ × List ℕ)) SearchFault) → ReadsPicked r es l.shape hits records document → document ≡ Ok (picked documents r.pick (map (hit_of documents) hits))
 picked_plain {r = r} h hits records read are document p =
-    p.are ∙ of_pick h hits records are p.replies p.fetched (eqb r.pick 0) (r.pick - 1) (h.asks.picked_bin hits records read)
+    p.are ∙ of_pick h hits records are p.replies p.fetched (eqb r.pick 0) (r.pick - 1) (h.asks.picked_bin (made_within h _ _ ForDocument p.replies p.fetched) hits records read)

@@ -1,24 +1,20 @@
 -- What a search answers over honest exchanges: the plain answer, or a refusal that is no fault of the replies.
-use Rattle.std.proofs.Common.{◌≡◌, ◌≢◌, ℕ, zero, suc, ◌+◌, ◌*◌, ◌<◌, ◌≤◌, ◌⊎◌, inl, inr, ⊎_elim, refl, sym, ap, subst, ◌∙◌, arith, mul_assoc, le_of_mul-le-mul_right, le_of_eq, le_antisymm, ℤ, List, [], ◌∷◌, ◌++◌, length, take, map, Option, Some, None, Result, Ok, Err, IfOk, IfErr}
-use Rattle.std.specs.Prelude.{slice_get, min}
+use Rattle.std.proofs.Common.{◌≡◌, ◌≢◌, ℕ, zero, suc, ◌*◌, ◌<◌, ◌≤◌, ◌⊎◌, inl, inr, ⊎_elim, refl, sym, ap, subst, ◌∙◌, arith, mul_assoc, le_of_mul-le-mul_right, le_of_eq, le_antisymm, List, [], ◌∷◌, ◌++◌, length, take, map, Option, Some, Result, Ok, Err, IfOk, IfErr}
+use Rattle.std.specs.Prelude.{slice_get}
 use Rattle.std.proofs.lemmas.Option.{none-some, same_Some, slice_get_within}
 use Rattle.std.proofs.lemmas.List.{length-map, length-take}
 use Rattle.rand_core.specs.Stream.{Stream}
 use Rattle.co_link.specs.declared.messages.Target.{Target}
 use Rattle.co_link.specs.declared.messages.Target.TheVariants.{Public, Keys as ForKeys, Score, Meta, Document as ForDocument}
-use Rattle.co_link.specs.declared.messages.Request.{Request}
-use Rattle.co_link.specs.declared.messages.Reply.{Reply}
 use Rattle.co_link.specs.declared.messages.Exchange.{Exchange}
 use Rattle.co_link.specs.Exchanges.{exchange_of}
 use Rattle.co_noise.specs.Shapes.{Numbers, keyword_blocks, document_blocks}
 use Rattle.co_noise.specs.Bounds.{test_of}
 use Rattle.co_noise.specs.declared.testing.TestFault.{TestFault}
-use Rattle.co_bfv.specs.Ciphertexts.{Ciphertext}
 use Rattle.co_bfv.specs.Totals.{ciphertext_at}
 use Rattle.co_bucket.specs.Lists.{bucket_count}
 use Rattle.co_bucket.specs.Bytes.{record_chunks}
 use Rattle.co_text.specs.declared.found.Found.{Found}
-use Rattle.co_text.specs.declared.found.Hit.{Hit}
 use Rattle.co_text.specs.declared.ranks.Ranked.{Ranked}
 use Rattle.co_text.specs.Terms.{distinct}
 use Rattle.co_text.specs.Numbers.{numbers_of, unknown_in}
@@ -26,31 +22,25 @@ use Rattle.co_corpus.specs.declared.documents.Document.{Document}
 use Rattle.co_tfidf.specs.Hits.{hit_of}
 use Rattle.co_tfidf.specs.Found.{picked, found}
 use Rattle.co_tfidf.specs.Vocabulary.{vocabulary}
-use Rattle.co_pack.specs.declared.records.Record.{Record}
-use Rattle.co_switch.specs.Keys.{Keys}
-use Rattle.co_wire.specs.declared.fault.WireFault.{WireFault}
 use Rattle.co_wire.specs.declared.fault.WireFault.TheVariants.{Length as WrongLength, Range as WrongRange, OutOfMemory as NoMemory}
-use Rattle.co_wire.specs.BadBodies.{IsBadBody}
-use Rattle.co_wire.specs.Bodies.{keys_bytes, ciphers_bytes, SpellsCiphers, SpellsKeys, IsFirstOutOfRange}
-use Rattle.co_wire.specs.Lengths.{cipher_size, request_size, reply_size}
+use Rattle.co_wire.specs.Bodies.{keys_bytes, ciphers_bytes, SpellsCiphers, SpellsKeys}
+use Rattle.co_wire.specs.Lengths.{request_size, reply_size}
 use Rattle.co_wire.specs.Public.{public_of}
 use Rattle.co_wire.proofs.Good_bodies.{good-list}
 use Rattle.co_library.specs.declared.settings.Settings.{Settings}
 use Rattle.co_library.specs.Libraries.{Parts, IsLibrary}
-use Rattle.co_rounds.specs.Answers.{Spells, HandsOver, IsGoodRequest, IsDone, reply_with}
+use Rattle.co_rounds.specs.Answers.{Spells, HandsOver, IsGoodRequest, reply_with}
 use Rattle.co_rounds.specs.Honest.{IsHonest, AreHonest}
 use Rattle.co_rounds.specs.Plans.{Seen, trace, targets, plan_of, FollowsPlan}
 use Rattle.co_rounds.specs.Placing.{CanBePlaced, IsUnplaced}
-use Rattle.co_rounds.specs.Asked.{bodies_of}
 use Rattle.co_rounds.specs.Recording.{IsLibraryFor}
 use Rattle.co_rounds.proofs.Rounds.{honest_done, public_told, score_reply_spelled, records_reply_spelled, document_reply_spelled}
 use Rattle.co_rounds.proofs.OneAnswer.{good_answered}
 use Rattle.co_client.specs.declared.fault.SearchFault.{SearchFault}
 use Rattle.co_client.specs.declared.fault.SearchFault.TheVariants.{TooManyKeywords, BadPublic, Test, NoPlacement, Link, Refused, BadReply, WrongRecord, BadPlace, NotByte, BadRecord, OutOfMemory}
 use Rattle.co_client.specs.Openings.{IsBadReply}
-use Rattle.co_client.specs.Records.{hits_shown}
 use Rattle.co_client.specs.Plain.{plain_hits, AnswersPlainly}
-use Rattle.co_client.specs.Causes.{Search, Publishes, EndsWith, ReadsHits, ReadsRecords, ReadsPicked, IsRead, IsRefusedBy, HasBadPublic, FailsTest, HasBadReply, HasNoPlacement, HasBadRecord, HasBadText, IsCause, Asks}
+use Rattle.co_client.specs.Causes.{Search, Publishes, ReadsHits, ReadsRecords, ReadsPicked, IsRead, IsRefusedBy, HasBadPublic, FailsTest, HasBadReply, HasNoPlacement, HasBadRecord, HasBadText, IsCause, Asks}
 use Rattle.co_client.specs.Going.{GoesOn}
 use Rattle.co_client.proofs.Spelled.{spelled-long}
 use Rattle.co_client.proofs.Exchanged.{at_end, first_sent, some_honest, parts_of, published_is}
@@ -58,7 +48,7 @@ use Rattle.co_client.proofs.Fresh_queries.{scores_spelled, records_spelled, docu
 use Rattle.co_client.proofs.Honest_rounds.{IsHonestSearch, has, has_room, spelled, sent, body_at, under}
 use Rattle.co_client.proofs.Plain_hits.{hits_plain}
 use Rattle.co_client.proofs.Placed_hits.{can_be_placed}
-use Rattle.co_client.proofs.Plain_records.{AreRecordsOf, shown_plain, AreRecords, records_plain}
+use Rattle.co_client.proofs.Plain_records.{AreRecordsOf, shown_plain, records_plain}
 use Rattle.co_client.proofs.Plain_text.{picked_plain}
 
 -- ---- answers and faults
@@ -160,14 +150,13 @@ module _ (documents : List Document) (settings : Settings) (l : Parts) (held : O
         same_answer f.document (picked documents r.pick (map (hit_of documents) read.hits)) (picked_plain h read.hits read.records all are (Ok f.document) pick) in
         let shown : f.hits ≡ map (hit_of documents) read.hits = read.shown ∙ shown_plain documents l read.hits read.records are in
         let unknown : f.unknown ≡ unknown_in (vocabulary settings.terms documents) (distinct r.query) =
-        read.unknown ∙ ap (λ (p : Numbers × List (List ℕ)). unknown_in p.1 (distinct r.query)) same ∙ ap (λ (ts : List (List ℕ)). unknown_in ts (distinct r.query)) library.built.is.terms in
-        (
+        read.unknown ∙ ap (λ (p : Numbers × List (List ℕ)). unknown_in p.1 (distinct r.query)) same ∙ ap (λ (ts : List (List ℕ)). unknown_in ts (distinct r.query)) library.built.is.terms in (
           λ t. record {
             hits = (shown ∙ ap (map (hit_of documents)) hits) t;
             unknown = unknown t;
             document = (document ∙ ap (λ (xs : List Ranked). picked documents r.pick (map (hit_of documents) xs)) hits) t;
           },
-          subst (CanBePlaced l.shape) hits (can_be_placed l.shape read.hits all.placed all.placement)
+          subst (CanBePlaced l.shape) hits (can_be_placed l.shape read.hits all.placed all.placement),
         )
 
     -- hits that can't be placed are those of the plain answer

@@ -2,9 +2,8 @@ pub mod Faults
 pub mod Records
 pub mod Causes
 pub mod Plain
+pub mod Going
 pub mod Rounds
 pub mod Openings
 pub mod Placings
 pub mod Published
-pub mod Scored
-pub mod Going

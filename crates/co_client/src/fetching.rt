@@ -9,7 +9,7 @@ ghost use Rattle.co_wire.specs.Lengths.{reply_size, reply_limit};
 ghost use Rattle.co_rounds.specs.Asked.{encryptions_draw};
 ghost use Rattle.co_rounds.specs.Recording.{is_within_bins};
 ghost use Rattle.co_client.specs.Rounds.{RoundFails, LinkFails, Gives, queries_request, queries_rest, bin_messages};
-ghost use Rattle.co_client.specs.Records.{text_read, picked_read, bin_asked, picked_record};
+ghost use Rattle.co_client.specs.Records.{text_read, picked_read, bin_asked};
 ghost use Rattle.co_client.specs.Faults.{IsReadAs};
 
 use crate::asking::ask;
@@ -37,12 +37,13 @@ fn bin_query<R: Rng>(
     ensures body { IfOk result (λ body. body ≡ ciphers_bytes (encryptions_draw reader.now.secret (bin_messages reader.now.shape bin) (R.stream rng.old)).0) }
     ensures rest { OnOk result (R.stream rng.new ≡ queries_rest reader.now.secret (bin_messages reader.now.shape bin) (R.stream rng.old)) }
 {
+    let secret = reader.secret();
     let shape = reader.tested().shape();
     let degree = Degree::of(shape.degree() as usize);
     let room = request_length(reader.tested(), Target::Document);
     let mut body = Vec::with_capacity(alloc, room as usize)?;
     let message = query_message(alloc, degree, shape.bins(), bin)?;
-    put_query(alloc, reader.secret(), &message, rng, &mut body)?;
+    put_query(alloc, secret, &message, rng, &mut body)?;
     Ok(Bytes::from_vec(body))
 }
 
@@ -82,6 +83,16 @@ pub fn fetch<K: Link, R: Rng>(
     }
 }
 
+/// The bin of a record, the first where there is none.
+pub fn bin_of(picked: Option<&Record>) -> u32
+    ensures { result ≡ bin_asked (option_map (λ r. r.now) picked.entry) }
+{
+    match picked {
+        Some(record) => record.place.bin,
+        None => 0,
+    }
+}
+
 /// The text at a place of the bin that a reply spells.
 #[tactic(auto, unfolding(crate::specs::Records::text_read))]
 fn read_text(
@@ -98,7 +109,11 @@ fn read_text(
     let shape = reader.tested().shape();
     let degree = Degree::of(shape.degree() as usize);
     let secret = reader.secret();
-    let bin = open_part(alloc, secret, degree, body, shape.chunks(), Target::Document, 0)?;
+    let chunks = shape.chunks();
+    let bin = match open_part(alloc, secret, degree, body, chunks, Target::Document, 0) {
+        Ok(bin) => bin,
+        Err(fault) => return Err(fault),
+    };
     let start = place.offset as usize;
     let text = &bin.as_slice()[start..start + place.length as usize];
     match Bytes::copy_of(alloc, text) {
@@ -116,15 +131,15 @@ pub fn read_document(
     picked: Option<&Record>,
 ) -> Result<Option<(u32, Bytes)>, SearchFault>
     requires whole { length body.now ≡ reply_size reader.now.shape targets.Document }
-    requires within { IfSome picked.entry (λ r. is_within_bins reader.now.shape r.now.place ≡ true) }
+    requires within { IfSome picked (λ r. is_within_bins reader.now.shape r.now.place ≡ true) }
     ensures { (cs : List Ciphertext) → SpellsCiphers reader.now.shape.degree reader.now.shape.chunks cs body.now
         → IsReadAs result (picked_read reader.now.secret cs (option_map (λ r. r.now) picked.entry)) }
 {
     match picked {
-        Some(record) => {
-            let text = read_text(alloc, reader, body, record.place)?;
-            Ok(Some((record.document, text)))
-        }
+        Some(record) => match read_text(alloc, reader, body, record.place) {
+            Ok(text) => Ok(Some((record.document, text))),
+            Err(fault) => Err(fault),
+        },
         None => Ok(None),
     }
 }

@@ -7,16 +7,15 @@ ghost use Rattle.co_bucket.specs.Lists.{bucket_count};
 ghost use Rattle.co_bucket.specs.Rows as rows_specs;
 ghost use Rattle.co_bucket.specs.Bytes as layouts;
 ghost use Rattle.co_bucket.specs.Bytes.{record_row};
-ghost use Rattle.co_bucket.specs.Placement.{IsPlacement};
 ghost use Rattle.co_bfv.specs.Ciphertexts.{Ciphertext};
 ghost use Rattle.co_pack.specs.Records.{record_of};
 ghost use Rattle.co_wire.specs.Bodies.{SpellsCiphers, ciphers_bytes};
 ghost use Rattle.co_wire.specs.Lengths.{reply_size, reply_limit};
 ghost use Rattle.co_rounds.specs.Asked.{encryptions_draw};
-ghost use Rattle.co_rounds.specs.Placing.{choices_of, place_in_bucket};
+ghost use Rattle.co_rounds.specs.Placing.{place_in_bucket};
 ghost use Rattle.co_rounds.specs.Recording as recordings;
 ghost use Rattle.co_client.specs.Rounds.{RoundFails, LinkFails, Gives, queries_request, queries_rest, record_messages};
-ghost use Rattle.co_client.specs.Placings.{places_asked};
+ghost use Rattle.co_client.specs.Placings.{places_asked, HaveBuckets};
 ghost use Rattle.co_client.specs.Records as readings;
 ghost use Rattle.co_client.specs.Records.{checked, record_read, records_read};
 ghost use Rattle.co_client.specs.Faults.{IsReadAs};
@@ -54,7 +53,7 @@ fn records_a_row(degree: u32) -> u32
 fn record_queries<R: Rng>(
     alloc: Global,
     reader: &Reader,
-    places: &[u32],
+    places: &[usize],
     rng: &mut R,
 ) -> Result<Bytes, AllocError>
     requires { All (λ p. record_row reader.now.shape.degree p < reader.now.shape.rows) places.now }
@@ -63,14 +62,17 @@ fn record_queries<R: Rng>(
     ensures rest { OnOk result (R.stream rng.new ≡ queries_rest reader.now.secret
         (record_messages reader.now.shape (map (record_row reader.now.shape.degree) places.now)) (R.stream rng.old)) }
 {
+    let secret = reader.secret();
     let shape = reader.tested().shape();
-    let degree = Degree::of(shape.degree() as usize);
+    let size = shape.degree();
+    let degree = Degree::of(size as usize);
+    let rows = shape.rows();
     let room = request_length(reader.tested(), Target::Meta);
     let mut body = Vec::with_capacity(alloc, room as usize)?;
     for place in places {
-        let row = *place / records_a_row(shape.degree());
-        let message = query_message(alloc, degree, shape.rows(), row)?;
-        put_query(alloc, reader.secret(), &message, rng, &mut body)?;
+        let row = *place / records_a_row(size) as usize;
+        let message = query_message(alloc, degree, rows, row as u32)?;
+        put_query(alloc, secret, &message, rng, &mut body)?;
     }
     Ok(Bytes::from_vec(body))
 }
@@ -82,7 +84,7 @@ pub fn gather<K: Link, R: Rng>(
     link: &mut K,
     rng: &mut R,
     reader: &Reader,
-    places: &[u32],
+    places: &[usize],
 ) -> Result<Bytes, SearchFault>
     requires ready { K.is_ready link.old ≡ true }
     requires rows { All (λ p. record_row reader.now.shape.degree p < reader.now.shape.rows) places.now }
@@ -160,7 +162,7 @@ fn read_one(
     reader: &Reader,
     body: &[u8],
     bucket: u32,
-    place: u32,
+    place: usize,
     document: u32,
 ) -> Result<Record, SearchFault>
     requires whole { length body.now ≡ reply_size reader.now.shape targets.Meta }
@@ -173,8 +175,12 @@ fn read_one(
     let size = shape.degree();
     let degree = Degree::of(size as usize);
     let count = record_chunks(size);
-    let row = open_part(alloc, reader.secret(), degree, body, count, Target::Meta, bucket)?;
-    let start = RECORD_BYTES * (place % records_a_row(size)) as usize;
+    let secret = reader.secret();
+    let row = match open_part(alloc, secret, degree, body, count, Target::Meta, bucket) {
+        Ok(row) => row,
+        Err(fault) => return Err(fault),
+    };
+    let start = RECORD_BYTES * (place % records_a_row(size) as usize);
     check_record(alloc, shape, document, &row.as_slice()[start..start + RECORD_BYTES])
 }
 
@@ -189,13 +195,13 @@ fn is_placed_here(item: &Option<u32>, rank: u32) -> bool
 }
 
 /// The bucket in which the hit of a rank is placed.
-fn bucket_of(placed: &[Option<u32>], rank: u32) -> u32
+fn bucket_of(placed: &[Option<u32>], rank: u32) -> usize
     ensures { result ≡ readings.bucket_of placed.now rank }
 {
-    match placed.iter().position(|item| is_placed_here(item, rank)) {
-        Some(bucket) => bucket as u32,
-        None => 0,
-    }
+    placed
+        .iter()
+        .position(|item| is_placed_here(item, rank))
+        .unwrap_or(0)
 }
 
 /// The records of hits by rank, from the replies of the buckets in which they are placed.
@@ -205,10 +211,11 @@ pub fn read_records(
     body: &[u8],
     hits: &[Ranked],
     placed: &[Option<u32>],
-    places: &[u32],
+    places: &[usize],
 ) -> Result<Listed<Record>, SearchFault>
     requires whole { length body.now ≡ reply_size reader.now.shape targets.Meta }
-    requires placed { IsPlacement (choices_of reader.now.shape hits.now) (bucket_count reader.now.shape.hits) placed.now }
+    requires placed { HaveBuckets reader.now.shape hits.now placed.now }
+    requires few { length hits.now ≤ 64 }
     requires places { places.now ≡ places_asked reader.now.shape hits.now placed.now }
     ensures { (cs : List Ciphertext) (all : ℕ) → SpellsCiphers reader.now.shape.degree all cs body.now
         → IsReadAs result (records_read reader.now.shape reader.now.secret cs placed.now 0 hits.now) }
@@ -218,8 +225,12 @@ pub fn read_records(
     };
     for rank in 0..hits.len() {
         let bucket = bucket_of(placed, rank as u32);
-        let place = places[bucket as usize];
-        let record = read_one(alloc, reader, body, bucket, place, hits[rank].document)?;
+        let place = places[bucket];
+        let document = hits[rank].document;
+        let record = match read_one(alloc, reader, body, bucket as u32, place, document) {
+            Ok(record) => record,
+            Err(fault) => return Err(fault),
+        };
         let Ok(()) = records.push(record) else {
             return Err(SearchFault::OutOfMemory);
         };
