@@ -15,3 +15,4 @@ pub mod Plain_hits
 pub mod Plain_records
 pub mod Plain_text
 pub mod Plainly
+pub mod Sure_replies

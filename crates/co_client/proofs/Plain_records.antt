@@ -121,20 +121,20 @@ module _ (documents : List Document) (l : Parts) (secret : List ℤ) (replies : 
 itself : (n : ℕ) → eqb n n ≡ true
 itself n = grind (arith, nat_tests)
 
-abbrev nil : Document
+abbrev pub nil : Document
 nil = record { title = []; text = [] }
 
 module _ {documents : List Document} {settings : Settings} {l : Parts} {held : Option (List ℕ)} {r : Search} {es : List Exchange} {result : Result Found SearchFault} {left : Stream}
     (h : IsHonestSearch documents settings l held r es result left) (hits : List Ranked) (ranked : ReadsHits r es l.shape l.terms hits)
     (placed : List (Option ℕ)) (p : IsPlacement (choices_of l.shape hits) (bucket_count l.shape.hits) placed)
     (replies : List Ciphertext) (a : Answered es l.shape.degree (bucket_count l.shape.hits * record_chunks l.shape.degree) Meta replies) where
-  rows_are : h.asks.rows ≡ rows_asked l.shape hits placed
+  pub rows_are : h.asks.rows ≡ rows_asked l.shape hits placed
   rows_are = h.asks.placed_rows (made_within h _ _ Meta replies a) hits placed ranked p
 
-  rows_long : length h.asks.rows ≡ bucket_count l.shape.hits
+  pub rows_long : length h.asks.rows ≡ bucket_count l.shape.hits
   rows_long = ap length rows_are ∙ length-map-range_with_len (λ (b : ℕ). row_asked l.shape hits (get_or placed b None) b) 0 (bucket_count l.shape.hits)
 
-  queries_spelled : SpellsCiphers l.shape.degree (bucket_count l.shape.hits) h.asks.asked.records (ciphers_bytes h.asks.asked.records)
+  pub queries_spelled : SpellsCiphers l.shape.degree (bucket_count l.shape.hits) h.asks.asked.records (ciphers_bytes h.asks.asked.records)
   queries_spelled =
       subst (λ (k : ℕ). SpellsCiphers l.shape.degree k h.asks.asked.records (ciphers_bytes h.asks.asked.records)) rows_long
       (records_spelled l.shape (has h) (has_room h) (numbers_of l.terms (distinct r.query)) h.asks.rows h.asks.bin r.stream h.asks.asked h.asks.rest h.asks.drawn)

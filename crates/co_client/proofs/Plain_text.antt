@@ -43,7 +43,7 @@ both_true true b e = refl
 both_true false b e = absurd cc
 
 -- a place in the bins is in one of them
-bin_within : (s : Numbers) (p : Place) → is_within_bins s p ≡ true → p.bin < s.bins
+pub bin_within : (s : Numbers) (p : Place) → is_within_bins s p ≡ true → p.bin < s.bins
 bin_within s p e = ltb-true p.bin s.bins (both_true (nat_lt p.bin s.bins) (nat_le (p.offset + p.length) (s.chunks * (2 * s.degree))) e)
 
 module _ {documents : List Document} {settings : Settings} {l : Parts} {held : Option (List ℕ)} {r : Search} {es : List Exchange} {result : Result Found SearchFault} {left : Stream}

@@ -87,7 +87,7 @@ module _ (documents : List Document) (settings : Settings) (l : Parts) (held : O
   good_library = library.built.good
 
   -- the published numbers and terms are the library's
-  published_same : (s : Numbers) (terms : List (List ℕ)) → Publishes es s terms → ◌≡◌ {A = Numbers × List (List ℕ)} (s, terms) (l.shape, l.terms)
+  pub published_same : (s : Numbers) (terms : List (List ℕ)) → Publishes es s terms → ◌≡◌ {A = Numbers × List (List ℕ)} (s, terms) (l.shape, l.terms)
   published_same s terms p =
       let asked = first_sent p.first p.others (subst FollowsPlan p.are follows) in
       let h = some_honest l held es 0 p.first honest (ap (λ (xs : List Exchange). slice_get xs 0) p.are) in

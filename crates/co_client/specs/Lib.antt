@@ -7,3 +7,4 @@ pub mod Rounds
 pub mod Openings
 pub mod Placings
 pub mod Published
+pub mod Sure

@@ -16,6 +16,7 @@ ghost use Rattle.co_client.specs.declared.fault.SearchFault.{SearchFault};
 ghost use Rattle.co_client.specs.Causes.{Search, Publishes, IsRead, IsCause, Asks};
 ghost use Rattle.co_client.specs.Going.{GoesOn};
 ghost use Rattle.co_client.specs.Plain.{AnswersPlainly};
+ghost use Rattle.co_client.specs.Sure.{AreSure};
 
 /// Over exchanges that are honest to the library of a corpus and settings, a search that asks as it
 /// draws, goes on only where it may, and reads or refuses what the replies show answers plainly: what
@@ -27,4 +28,13 @@ pub fn search_is_plain()
         → ((s : Numbers) (terms : List (List ℕ)) → Publishes es s terms → test_of s ≡ Ok s → Asks r es s terms result left)
         → IfOk result (IsRead r es) → IfErr result (IsCause r es)
         → AnswersPlainly documents settings l r.query r.pick result }
+{}
+
+/// And each ciphertext that such a search decrypts means its message, with twice its noise below q:
+/// the published numbers passed the test.
+pub fn search_decrypts_surely()
+    ensures { (documents : List Document) (settings : Settings) (l : Parts) (held : Option (List ℕ)) (r : Search) (es : List Exchange) (result : Result Found SearchFault) (left : Stream)
+        → IsLibraryFor documents settings l → AreHonest l held es → FollowsPlan es → GoesOn r es
+        → (s : Numbers) (terms : List (List ℕ)) → Publishes es s terms → test_of s ≡ Ok s → Asks r es s terms result left
+        → AreSure r es s terms }
 {}
