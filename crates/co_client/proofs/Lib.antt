@@ -16,3 +16,10 @@ pub mod Plain_records
 pub mod Plain_text
 pub mod Plainly
 pub mod Sure_replies
+pub mod Unique
+pub mod Asking
+pub mod Told
+pub mod Messages
+pub mod Ends
+pub mod RecordFaults
+pub mod Finishes

@@ -1,5 +1,5 @@
 -- Over honest exchanges each ciphertext that is decrypted means its message, with twice its noise below q.
-use Rattle.std.proofs.Common.{◌≡◌, ℕ, ◌+◌, ◌*◌, ◌-◌, ◌/◌, ◌%◌, ◌<◌, ◌≤◌, refl, sym, ap, subst, ◌∙◌, ⊎_elim, arith, Bool, true, false, cond, eqb, ℤ, List, [], ◌∷◌, length, get_or, take, drop, map, All, Option, Some, None, Result, Ok, zero, suc, mod-lt, div-add-mod', mul-le-mul_right}
+use Rattle.std.proofs.Common.{◌≡◌, ℕ, ◌+◌, ◌*◌, ◌-◌, ◌/◌, ◌%◌, ◌<◌, ◌≤◌, refl, sym, ap, subst, ◌∙◌, ⊎_elim, arith, Bool, true, false, cond, eqb, ℤ, List, [], ◌∷◌, length, get_or, drop, All, Option, Some, None, Result, Ok, zero, suc, mod-lt, div-add-mod', mul-le-mul_right}
 use Rattle.std.specs.Prelude.{slice_get, slice_index, slice_index_or}
 use Rattle.std.specs.List.{Contains}
 use Rattle.std.proofs.lemmas.Bool.{cases_lt}
@@ -30,7 +30,7 @@ use Rattle.co_bfv.proofs.Encrypted.{decrypted_are}
 use Rattle.co_bfv.proofs.Ternary.{secret-IsTernary}
 use Rattle.co_switch.specs.Keys.{Keys}
 use Rattle.co_matvec.specs.Weights.{numbers_of, keyword_blocks}
-use Rattle.co_matvec.specs.Replies.{CanScore, AreKeywords, AreScoreReplies, MeansSlots}
+use Rattle.co_matvec.specs.Replies.{CanScore, AreKeywords, AreScoreReplies}
 use Rattle.co_matvec.proofs.Lawful.{replies_show}
 use Rattle.co_pir.specs.Messages.{query_polynomial}
 use Rattle.co_pir.specs.Tables.{Table, IsTable, piece, payload, row_bytes}
@@ -60,8 +60,8 @@ use Rattle.co_rounds.specs.Serving.{weights_of, gathered, bucket_table, bin_tabl
 use Rattle.co_rounds.specs.Answers.{IsDone, IsScored, IsGathered, IsFetched, reply_with}
 use Rattle.co_rounds.specs.Honest.{IsHonest, AreHonest}
 use Rattle.co_rounds.specs.Plans.{FollowsPlan}
-use Rattle.co_rounds.specs.Placing.{choices_of, no_hit, document_at, document_row, row_asked, rows_asked}
-use Rattle.co_rounds.specs.Recording.{IsLibraryFor, CanBeOpened, AsksFor, ShowsDocument, bucket_replies}
+use Rattle.co_rounds.specs.Placing.{choices_of, no_hit, document_at, row_asked}
+use Rattle.co_rounds.specs.Recording.{IsLibraryFor, CanBeOpened, AsksFor, ShowsDocument}
 use Rattle.co_rounds.proofs.Rounds.{honest_done, held_are, scores-ciphers, gathered-ciphers, retrieved-ciphers}
 use Rattle.co_rounds.proofs.Recorded.{shows_document}
 use Rattle.co_rounds.proofs.Retrievable.{is-bucket_table, is-bin_table, gathered-at}
@@ -69,12 +69,12 @@ use Rattle.co_rounds.proofs.Weighing.{bounds_agree, weights_small}
 use Rattle.co_client.specs.declared.fault.SearchFault.{SearchFault}
 use Rattle.co_client.specs.Causes.{Search, Publishes, Answered, ReadsHits, ReadsRecords, Asks}
 use Rattle.co_client.specs.Going.{GoesOn}
-use Rattle.co_client.specs.Records.{picked_record, bin_asked}
+use Rattle.co_client.specs.Records.{bin_asked}
 use Rattle.co_client.specs.Sure.{IsSure, AreSure}
 use Rattle.co_client.proofs.Fresh_queries.{scores_spelled, scores_asked, records_asked, document_spelled, document_asked}
 use Rattle.co_client.proofs.Honest_rounds.{IsHonestSearch, has, has_room, few, spelled, can, made_within, round}
 use Rattle.co_client.proofs.Plain_hits.{hits_within}
-use Rattle.co_client.proofs.Plain_records.{AreRecordsOf, StandsAt, record_at, rows_are, rows_long, queries_spelled, AreRecords, records_plain, nil}
+use Rattle.co_client.proofs.Plain_records.{AreRecordsOf, StandsAt, record_at, rows_are, rows_long, queries_spelled, records_plain, nil}
 use Rattle.co_client.proofs.Plain_text.{bin_within}
 use Rattle.co_client.proofs.Plainly.{published_same}
 

@@ -1,5 +1,5 @@
 -- Ciphertexts that are decrypted for sure.
-use Rattle.std.specs.Prelude.{ℕ, ℤ, ◌*◌, ◌<◌, List, Option, Result, Ok, All}
+use Rattle.std.specs.Prelude.{ℕ, ℤ, ◌*◌, ◌<◌, List, Option, Ok, All}
 use Rattle.co_link.specs.declared.messages.Target.TheVariants.{Score, Meta, Document}
 use Rattle.co_link.specs.declared.messages.Exchange.{Exchange}
 use Rattle.co_math.specs.Parameters.{q}
