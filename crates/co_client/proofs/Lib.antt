@@ -23,3 +23,4 @@ pub mod Messages
 pub mod Ends
 pub mod RecordFaults
 pub mod Finishes
+pub mod Tells_plainly
