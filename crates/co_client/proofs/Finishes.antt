@@ -35,7 +35,7 @@ use Rattle.co_client.specs.declared.placing.Placing.TheVariants.{Placed, Unplace
 use Rattle.co_client.specs.Causes.{Search, IsRead, ReadsHits, ReadsRecords, ReadsPicked, HasBadRecord, HasBadText, secret_of}
 use Rattle.co_client.specs.Faults.{is_want}
 use Rattle.co_client.specs.Telling.{Makes, Tells, Told}
-use Rattle.co_client.specs.Placings.{IsPlacing, by_bucket, shown_of}
+use Rattle.co_client.specs.Placings.{IsPlacing, by_bucket, shown_of, concluded}
 use Rattle.co_client.specs.Records.{records_read, picked_record, picked_read, bin_asked, hits_shown}
 use Rattle.co_client.specs.Rounds.{Comes, Ranks, RoundFails, LinkFails, keys_request, queries_request}
 use Rattle.co_client.proofs.Exchanged.{in_front}
@@ -342,3 +342,12 @@ module _ (run : Search) (was : Option (List Exchange)) (now : Option (List Excha
               (record { shape = s; terms = b.terms; hits = hits; ranked = reads-hits (fourth_of ∷ fifth_of ∷ []); unplaced = subst (λ (x : Placing). IsPlacing s hits x) is placed },
               trail-whole s b.terms b.messages rows bin run.stream (first_of b.body) (keys_of s run.stream ∷ third ∷ fourth_of ∷ fifth_of ∷ []) b.are.count long b.read refl (record { requests = refl }));
         }
+
+        -- either of both
+        pub concluded-told : (f : Found) (left : Stream) → f.hits ≡ hits_shown (shown_of placing hits) records → f.unknown ≡ unknown_in b.terms (distinct run.query) → picked_read (secret_of run s) replies5 (picked_record records run.pick) ≡ Ok f.document
+            → left ≡ after_all s b.messages rows bin run.stream → Told run was last (concluded placing f) left
+        concluded-told f left shown unknown picked at_end = step placing refl
+          where
+            step : (x : Placing) → placing ≡ x → Told run was last (concluded x f) left
+            step (Placed p) is = found-told p f left is (shown ∙ ap (λ (y : Placing). hits_shown (shown_of y hits) records) is) unknown picked at_end
+            step (Unplaced documents buckets) is = unplaced-told documents buckets left is at_end

@@ -17,7 +17,8 @@ pub mod Plain_text
 pub mod Plainly
 pub mod Sure_replies
 pub mod Unique
-pub mod Asking
+pub mod Unanswered
+pub mod Placed
 pub mod Told
 pub mod Messages
 pub mod Ends

@@ -2,8 +2,12 @@
 use Rattle.std.proofs.Common.{◌≡◌, ℕ, zero, suc, ◌+◌, ◌-◌, ◌*◌, ◌/◌, ◌%◌, ◌<◌, ◌≤◌, min, refl, sym, ap, subst, ◌∙◌, ⊎_elim, arith, ℤ, List, [], ◌∷◌, ◌++◌, length, get_or, take, map, length-append}
 use Rattle.std.specs.List.{range_with_len}
 use Rattle.std.proofs.lemmas.Bool.{cases_lt}
+use Rattle.std.proofs.lemmas.Grind.{div_ceil_times}
 use Rattle.std.proofs.lemmas.Nat.{div-mul-add}
-use Rattle.std.proofs.Math.Nat.{mod-eq-sub-div-mul}
+use Rattle.std.proofs.Math.Nat.{mod-eq-sub-div-mul, mul-le-mul_right}
+use Rattle.co_math.specs.Parameters.{plain_modulus}
+use Rattle.co_math.specs.Coefficients.{AreBelow}
+use Rattle.co_math.proofs.Residues.{residue-lt}
 use Rattle.std.proofs.lemmas.List.{ext_get_or, length-take, get_or-take, get_or_append_left, get_or-append_right}
 use Rattle.std.proofs.lemmas.List.FromFn.{length-map-range_with_len, get_or-map-range_with_len}
 use Rattle.co_slots.specs.Slots.{slot, AreSlots}
@@ -64,3 +68,20 @@ one-scored s secret cs i slots scores next positive long each h e =
         get_or-append_right scores (take (s.documents - length scores) slots) (length scores) j 0 refl u
         ∙ get_or-take (s.documents - length scores) slots at 0 (omega arith) ∙ each at (omega arith)
         ∙ (λ t. slot (decrypted secret (ciphertext_at cs (sym block t))) (sym column t))
+
+-- the blocks hold all documents
+pub all-scored : (s : Numbers) (secret : List ℤ) (cs : List Ciphertext) (blocks : ℕ) → 0 < s.degree → document_blocks s ≤ blocks → scores_to s secret cs blocks ≡ scores_read s secret cs
+unfolding document_blocks
+all-scored s secret cs blocks positive l =
+    let whole = (div_ceil_times s.documents s.degree positive).0 in
+    let more = mul-le-mul_right s.degree l in
+    let all : min (blocks * s.degree) s.documents ≡ s.documents = omega (arith, whole, more) in
+    ap (λ (k : ℕ). map (score_read s.degree secret cs) (range_with_len 0 k)) all
+
+-- slots are below t
+slot-below : (xs : List ℕ) (p : ℕ) → slot xs p < plain_modulus
+unfolding slot
+slot-below xs p = residue-lt plain_modulus _ (omega arith)
+
+pub slots-below : (coeffs slots : List ℕ) → AreSlots coeffs slots → AreBelow plain_modulus slots
+slots-below coeffs slots h p l = subst (λ (x : ℕ). x < plain_modulus) (sym (h.each p (omega (arith, h.len)))) (slot-below coeffs p)

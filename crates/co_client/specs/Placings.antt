@@ -1,5 +1,5 @@
 -- Where hits are placed, and which records are asked.
-use Rattle.std.specs.Prelude.{◌≡◌, ◌<◌, ℕ, List, [], length, map, Option, Some, None, slice_index_or}
+use Rattle.std.specs.Prelude.{◌≡◌, ◌<◌, ℕ, List, [], length, map, Option, Some, None, Result, Ok, Err, slice_index_or}
 use Rattle.std.specs.List.{range_with_len}
 use Rattle.co_noise.specs.Shapes.{Numbers}
 use Rattle.co_text.specs.declared.ranks.Ranked.{Ranked}
@@ -7,6 +7,9 @@ use Rattle.co_bucket.specs.Lists.{bucket_count}
 use Rattle.co_bucket.specs.Placement.{IsPlacement}
 use Rattle.co_rounds.specs.Placing.{choices_of, document_at, place_in_bucket, IsUnplaced}
 use Rattle.co_client.specs.Records.{bucket_of}
+use Rattle.co_text.specs.declared.found.Found.{Found}
+use Rattle.co_client.specs.declared.fault.SearchFault.{SearchFault}
+use Rattle.co_client.specs.declared.fault.SearchFault.TheVariants.{NoPlacement}
 use Rattle.co_client.specs.declared.placing.Placing.{Placing}
 use Rattle.co_client.specs.declared.placing.Placing.TheVariants.{Placed, Unplaced}
 
@@ -24,6 +27,11 @@ by_bucket (Unplaced documents buckets) = []
 abbrev pub shown_of : Placing → List Ranked → List Ranked
 shown_of (Placed placed) hits = hits
 shown_of (Unplaced documents buckets) hits = []
+
+-- the answer where the hits are placed, else that they can't be
+abbrev pub concluded : Placing → Found → Result Found SearchFault
+concluded (Placed placed) f = Ok f
+concluded (Unplaced documents buckets) f = Err (NoPlacement documents buckets)
 
 -- each hit has its bucket
 pub record HaveBuckets (s : Numbers) (hits : List Ranked) (placed : List (Option ℕ)) : Type 0 where

@@ -1,7 +1,6 @@
 //! The round of the document.
 
-ghost use Rattle.std.specs.Prelude.{◌≡◌, ◌+◌, ◌*◌, ◌<◌, ◌≤◌, true, ℕ, List, Option, length, IfOk, IfErr, IfSome, OnOk};
-ghost use Rattle.std.specs.Option.{option_map};
+ghost use Rattle.std.specs.Prelude.{◌≡◌, ◌+◌, ◌*◌, ◌<◌, ◌≤◌, true, ℕ, List, Option, length, All, IfOk, IfErr, OnOk};
 ghost use Rattle.co_link.specs.declared.messages.Target.TheVariants as targets;
 ghost use Rattle.co_bfv.specs.Ciphertexts.{Ciphertext};
 ghost use Rattle.co_wire.specs.Bodies.{SpellsCiphers, ciphers_bytes};
@@ -9,7 +8,7 @@ ghost use Rattle.co_wire.specs.Lengths.{reply_size, reply_limit};
 ghost use Rattle.co_rounds.specs.Asked.{encryptions_draw};
 ghost use Rattle.co_rounds.specs.Recording.{is_within_bins};
 ghost use Rattle.co_client.specs.Rounds.{RoundFails, LinkFails, Gives, queries_request, queries_rest, bin_messages};
-ghost use Rattle.co_client.specs.Records.{text_read, picked_read, bin_asked};
+ghost use Rattle.co_client.specs.Records.{text_read, picked_record, picked_read, bin_asked};
 ghost use Rattle.co_client.specs.Faults.{IsReadAs};
 
 use crate::asking::ask;
@@ -79,11 +78,12 @@ pub fn fetch<K: Link, R: Rng>(
     }
 }
 
-/// The bin of a record, the first where there is none.
-pub fn bin_of(picked: Option<&Record>) -> u32
-    ensures { result ≡ bin_asked (option_map (λ r. r.now) picked.entry) }
+/// The bin of the picked record, the first where there is none.
+pub fn bin_of(records: &[Record], pick: u32) -> u32
+    requires { 1 ≤ pick }
+    ensures { result ≡ bin_asked (picked_record records.now pick) }
 {
-    match picked {
+    match records.get(pick as usize - 1) {
         Some(record) => record.place.bin,
         None => 0,
     }
@@ -118,20 +118,22 @@ fn read_text(
     }
 }
 
-/// The number and the text of the document of a record, from the reply that spells its bin. Where
-/// there is no record nothing is opened.
+/// The number and the text of the document of the picked record, from the reply that spells its bin.
+/// Where no record is picked nothing is opened.
 pub fn read_document(
     alloc: Global,
     reader: &Reader,
     body: &[u8],
-    picked: Option<&Record>,
+    records: &[Record],
+    pick: u32,
 ) -> Result<Option<(u32, Bytes)>, SearchFault>
+    requires pick { 1 ≤ pick }
     requires whole { length body.now ≡ reply_size reader.now.shape targets.Document }
-    requires within { IfSome picked (λ r. is_within_bins reader.now.shape r.now.place ≡ true) }
+    requires within { All (λ r. is_within_bins reader.now.shape r.place ≡ true) records.now }
     ensures { (cs : List Ciphertext) → SpellsCiphers reader.now.shape.degree reader.now.shape.chunks cs body.now
-        → IsReadAs result (picked_read reader.now.secret cs (option_map (λ r. r.now) picked.entry)) }
+        → IsReadAs result (picked_read reader.now.secret cs (picked_record records.now pick)) }
 {
-    match picked {
+    match records.get(pick as usize - 1) {
         Some(record) => match read_text(alloc, reader, body, record.place) {
             Ok(text) => Ok(Some((record.document, text))),
             Err(fault) => Err(fault),

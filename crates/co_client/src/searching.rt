@@ -10,6 +10,7 @@ ghost use Rattle.co_client.specs.Causes.{Search, Publishes, IsRead, IsCause, IsC
 ghost use Rattle.co_client.specs.Going.{GoesOn};
 ghost use Rattle.co_client.specs.Telling.{Told};
 ghost use Rattle.co_client.specs.Faults.{IsManyTerms};
+ghost use Rattle.co_client.specs.Placings.{concluded};
 ghost use Rattle.co_client.specs.Records.{hit_shown, hits_shown};
 
 use crate::fault::SearchFault;
@@ -61,6 +62,18 @@ fn with_titles(alloc: Global, ranked: &[Ranked], records: &[Record]) -> Result<H
     Ok(hits)
 }
 
+/// The answer where the hits are placed, else that they can't be.
+fn conclude(placing: Placing, found: Found) -> Result<Found, SearchFault>
+    ensures { result ≡ concluded placing found }
+{
+    match placing {
+        Placing::Placed(_) => Ok(found),
+        Placing::Unplaced { documents, buckets } => {
+            Err(SearchFault::NoPlacement { documents, buckets })
+        }
+    }
+}
+
 /// The search, with all that it tells in one clause.
 fn conduct<K: Link, R: Rng>(
     alloc: Global,
@@ -110,28 +123,26 @@ fn conduct<K: Link, R: Rng>(
         Ok(records) => records,
         Err(fault) => return Err(fault),
     };
-    let picked = records.as_slice().get(pick as usize - 1);
-    let body = match fetch(alloc, link, rng, &reader, bin_of(picked)) {
+    let bin = bin_of(records.as_slice(), pick);
+    let body = match fetch(alloc, link, rng, &reader, bin) {
         Ok(body) => body,
         Err(fault) => return Err(fault),
     };
-    let document = match read_document(alloc, &reader, body.as_slice(), picked) {
+    let document = match read_document(alloc, &reader, body.as_slice(), records.as_slice(), pick) {
         Ok(document) => document,
         Err(fault) => return Err(fault),
     };
     let Ok(hits) = with_titles(alloc, shown, records.as_slice()) else {
         return Err(SearchFault::OutOfMemory);
     };
-    match placing {
-        Placing::Placed(_) => Ok(Found {
+    conclude(
+        placing,
+        Found {
             hits,
             unknown: published.unknown,
             document,
-        }),
-        Placing::Unplaced { documents, buckets } => {
-            Err(SearchFault::NoPlacement { documents, buckets })
-        }
-    }
+        },
+    )
 }
 
 /// Searches a library over a link: the hits by score with their titles, the query's unknown terms,

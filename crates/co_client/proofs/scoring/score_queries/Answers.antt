@@ -29,7 +29,7 @@ loop-block-preserved g c =
       message_modulus = search rules;
       message_degree = search rules;
       asked = one-asked s c.args.reader.now.secret c.args.keywords.now c.loop-block.block c.write_keywords.new.message.coeffs (g.R.Rng.stream c.args.rng.now) c.loop-block.body.items c.put_query.new.body.items (g.R.Rng.stream c.loop-block.rng) (g.R.Rng.stream c.put_query.new.rng)
-          (grind (arith, c.degree.ensures.ranges.degree)) slots (λ messages are. omega (arith, are.count, count, c.loop-block-test.true)) c.loop-block.invariant.asked
+          (grind (arith, c.degree-size.ensures.ranges.degree)) slots (λ messages are. omega (arith, are.count, count, c.loop-block-test.true)) c.loop-block.invariant.asked
           (grind (arith, c.in_ok-put_query.ensures.spelled)) (grind (arith, c.in_ok-put_query.ensures.rest));
     }
 
