@@ -1,0 +1,256 @@
+//! Replies under a client's keys.
+
+ghost use Rattle.std.specs.Prelude.{◌≡◌, ◌≢◌, ◌≤◌, ◌<◌, ℕ, List, Option, Some, None, true, length, map, IfOk, OnOk};
+ghost use Rattle.std.specs.List.{flat_map, range_with_len};
+ghost use Rattle.co_switch.specs.Keys.{Keys};
+ghost use Rattle.co_bfv.specs.Ciphertexts.{Ciphertext, ciphertext_degree};
+ghost use Rattle.co_bfv.specs.Totals.{ciphertext_at};
+ghost use Rattle.co_pir.specs.Replies.{retrieved};
+ghost use Rattle.co_wire.specs.Bodies.{AreCiphers};
+ghost use Rattle.co_bucket.specs.Lists.{bucket_count};
+ghost use Rattle.co_rounds.specs.Serving.{bucket_table, bin_table, gathered};
+ghost use Rattle.co_link.specs.declared.messages.Target.TheVariants as targets;
+ghost use Rattle.co_wire.specs.BadBodies.{IsBadBody};
+ghost use Rattle.co_wire.specs.Bodies.{AreKeysFor};
+ghost use Rattle.co_wire.specs.Lengths.{request_size};
+ghost use Rattle.co_rounds.specs.Answers.{IsAnswer, needs_keys};
+ghost use Rattle.co_server.specs.Refusals.{RefusedAs};
+
+use crate::loaded::Loaded;
+use co_bfv::Cipher;
+use co_board::Gate;
+use co_bucket::buckets;
+use co_link::{Request, Target};
+use co_matvec::score;
+use co_pir::answer;
+use co_ring::Degree;
+use co_rounds::Answer;
+use co_switch::{KeySet, Steps};
+use co_wire::{WireFault, read_ciphers, request_length, write_ciphers, write_public};
+use std::alloc::{AllocError, Global};
+use std::thread::Threads;
+
+/// What is answered to a body that isn't read.
+pub(crate) fn refusal(fault: WireFault) -> Answer
+    ensures { RefusedAs fault result }
+{
+    match fault {
+        WireFault::Length { wanted, found } => Answer::Length { wanted, found },
+        WireFault::Range { place } => Answer::Range { place },
+        WireFault::Public { .. } | WireFault::OutOfMemory => Answer::OutOfMemory,
+    }
+}
+
+/// What is answered where no keys are held, to a request that needs some.
+pub(crate) fn without_keys(loaded: &Loaded, request: &Request) -> Answer
+    requires { needs_keys request.now.target ≡ true }
+    ensures { IsAnswer loaded.now None request.now result }
+{
+    let wanted = request_length(loaded.tested(), request.target);
+    let found = request.body.len() as u64;
+    if found != wanted {
+        return Answer::Length { wanted, found };
+    }
+    Answer::NoKeys
+}
+
+/// What is answered to a request for the published parameters.
+pub(crate) fn public_answer(alloc: Global, loaded: &Loaded, request: &Request) -> Answer
+    requires { request.now.target ≡ targets.Public }
+    ensures { (held : Option Keys) → IsAnswer loaded.now held request.now result }
+{
+    let found = request.body.len() as u64;
+    if found != 0 {
+        return Answer::Length { wanted: 0, found };
+    }
+    let library = loaded.library();
+    match write_public(alloc, library.shape(), library.terms()) {
+        Ok(bytes) => Answer::Done(bytes),
+        Err(_) => Answer::OutOfMemory,
+    }
+}
+
+/// The answer to a request for scores, records or a document under these keys, which were read for
+/// the library's shape. It is the one of a session that has them, so no keys are never missing.
+pub fn reply_with<R: Threads + Sync, G: Gate, L>(
+    rt: &R,
+    alloc: Global,
+    loaded: &Loaded,
+    keys: &KeySet,
+    request: &Request,
+    workers: u32,
+    gate: &G,
+    steps: &mut Steps<L>,
+) -> Answer
+    requires target { needs_keys request.now.target ≡ true }
+    requires keys { AreKeysFor loaded.now.shape keys.now }
+    requires workers { (1 ≤ workers) × (workers ≤ 64) }
+    ensures { IsAnswer loaded.now (Some keys.now) request.now result }
+{
+    match request.target {
+        Target::Score => score_answer(rt, alloc, loaded, keys, request, workers, gate, steps),
+        Target::Meta => meta_answer(rt, alloc, loaded, keys, request, workers, gate, steps),
+        Target::Document => document_answer(rt, alloc, loaded, keys, request, workers, gate, steps),
+        Target::Public | Target::Keys => unreachable!(),
+    }
+}
+
+/// The answer to a request for scores.
+fn score_answer<R: Threads + Sync, G: Gate, L>(
+    rt: &R,
+    alloc: Global,
+    loaded: &Loaded,
+    keys: &KeySet,
+    request: &Request,
+    workers: u32,
+    gate: &G,
+    steps: &mut Steps<L>,
+) -> Answer
+    requires target { request.now.target ≡ targets.Score }
+    requires keys { AreKeysFor loaded.now.shape keys.now }
+    requires workers { (1 ≤ workers) × (workers ≤ 64) }
+    ensures { IsAnswer loaded.now (Some keys.now) request.now result }
+{
+    let shape = loaded.tested().shape();
+    let degree = Degree::of(shape.degree() as usize);
+    let body = request.body.as_slice();
+    let queries = match read_ciphers(alloc, degree, shape.keyword_blocks(), body) {
+        Ok(queries) => queries,
+        Err(fault) => return refusal(fault),
+    };
+    let Ok(replies) = score(
+        rt,
+        alloc,
+        loaded.weights(),
+        keys,
+        &queries,
+        workers,
+        gate,
+        steps,
+    ) else {
+        return Answer::OutOfMemory;
+    };
+    match write_ciphers(alloc, &replies) {
+        Ok(bytes) => Answer::Done(bytes),
+        Err(_) => Answer::OutOfMemory,
+    }
+}
+
+/// The answer to a request for records, bucket by bucket.
+fn meta_answer<R: Threads + Sync, G: Gate, L>(
+    rt: &R,
+    alloc: Global,
+    loaded: &Loaded,
+    keys: &KeySet,
+    request: &Request,
+    workers: u32,
+    gate: &G,
+    steps: &mut Steps<L>,
+) -> Answer
+    requires target { request.now.target ≡ targets.Meta }
+    requires keys { AreKeysFor loaded.now.shape keys.now }
+    requires workers { (1 ≤ workers) × (workers ≤ 64) }
+    ensures { IsAnswer loaded.now (Some keys.now) request.now result }
+{
+    let shape = loaded.tested().shape();
+    let degree = Degree::of(shape.degree() as usize);
+    let body = request.body.as_slice();
+    let queries = match read_ciphers(alloc, degree, buckets(shape.hits()), body) {
+        Ok(queries) => queries,
+        Err(fault) => return refusal(fault),
+    };
+    let Ok(replies) = gather(rt, alloc, loaded, keys, &queries, workers, gate, steps) else {
+        return Answer::OutOfMemory;
+    };
+    match write_ciphers(alloc, &replies) {
+        Ok(bytes) => Answer::Done(bytes),
+        Err(_) => Answer::OutOfMemory,
+    }
+}
+
+/// The replies of all buckets, each to its query.
+fn gather<R: Threads + Sync, G: Gate, L>(
+    rt: &R,
+    alloc: Global,
+    loaded: &Loaded,
+    keys: &KeySet,
+    queries: &[Cipher],
+    workers: u32,
+    gate: &G,
+    steps: &mut Steps<L>,
+) -> Result<Vec<Cipher>, AllocError>
+    requires queries { AreCiphers loaded.now.shape.degree (bucket_count loaded.now.shape.hits) queries.now }
+    requires keys { AreKeysFor loaded.now.shape keys.now }
+    requires workers { (1 ≤ workers) × (workers ≤ 64) }
+    ensures { IfOk result (λ cs. cs.items ≡ gathered loaded.now keys.now queries.now) }
+{
+    let mut replies = Vec::new(alloc);
+    for b in 0..queries.len() {
+        let mut more = bucket_reply(rt, alloc, loaded, keys, b, &queries[b], workers, gate, steps)?;
+        replies.append(&mut more)?;
+    }
+    Ok(replies)
+}
+
+/// The reply of a bucket to its query.
+fn bucket_reply<R: Threads + Sync, G: Gate, L>(
+    rt: &R,
+    alloc: Global,
+    loaded: &Loaded,
+    keys: &KeySet,
+    bucket: usize,
+    query: &Cipher,
+    workers: u32,
+    gate: &G,
+    steps: &mut Steps<L>,
+) -> Result<Vec<Cipher>, AllocError>
+    requires bucket { bucket < bucket_count loaded.now.shape.hits }
+    requires degree { ciphertext_degree query.now ≡ loaded.now.shape.degree }
+    requires keys { AreKeysFor loaded.now.shape keys.now }
+    requires workers { (1 ≤ workers) × (workers ≤ 64) }
+    ensures { IfOk result (λ cs. cs.items ≡ retrieved (bucket_table loaded.now bucket) keys.now query.now) }
+{
+    let rows = loaded.bucket(bucket);
+    answer(rt, alloc, rows, keys, query, workers, gate, steps)
+}
+
+/// The answer to a request for a bin.
+fn document_answer<R: Threads + Sync, G: Gate, L>(
+    rt: &R,
+    alloc: Global,
+    loaded: &Loaded,
+    keys: &KeySet,
+    request: &Request,
+    workers: u32,
+    gate: &G,
+    steps: &mut Steps<L>,
+) -> Answer
+    requires target { request.now.target ≡ targets.Document }
+    requires keys { AreKeysFor loaded.now.shape keys.now }
+    requires workers { (1 ≤ workers) × (workers ≤ 64) }
+    ensures { IsAnswer loaded.now (Some keys.now) request.now result }
+{
+    let shape = loaded.tested().shape();
+    let degree = Degree::of(shape.degree() as usize);
+    let queries = match read_ciphers(alloc, degree, 1, request.body.as_slice()) {
+        Ok(queries) => queries,
+        Err(fault) => return refusal(fault),
+    };
+    let _ = loaded.library();
+    let Ok(replies) = answer(
+        rt,
+        alloc,
+        loaded.bins(),
+        keys,
+        &queries[0],
+        workers,
+        gate,
+        steps,
+    ) else {
+        return Answer::OutOfMemory;
+    };
+    match write_ciphers(alloc, &replies) {
+        Ok(bytes) => Answer::Done(bytes),
+        Err(_) => Answer::OutOfMemory,
+    }
+}
