@@ -1,0 +1,24 @@
+-- Where hits are placed, and which records are asked.
+use Rattle.std.specs.Prelude.{◌≡◌, ℕ, List, map, Option, Some, None, slice_index_or}
+use Rattle.std.specs.List.{range_with_len}
+use Rattle.co_noise.specs.Shapes.{Numbers}
+use Rattle.co_text.specs.declared.ranks.Ranked.{Ranked}
+use Rattle.co_bucket.specs.Lists.{bucket_count}
+use Rattle.co_bucket.specs.Placement.{IsPlacement}
+use Rattle.co_rounds.specs.Placing.{choices_of, document_at, place_in_bucket, IsUnplaced}
+use Rattle.co_client.specs.declared.placing.Placing.{Placing}
+use Rattle.co_client.specs.declared.placing.Placing.TheVariants.{Placed, Unplaced}
+
+-- the hits are placed by the least assignment, or there is none
+abbrev pub IsPlacing : Numbers → List Ranked → Placing → Type 0
+IsPlacing s hits (Placed placed) = IsPlacement (choices_of s hits) (bucket_count s.hits) placed
+IsPlacing s hits (Unplaced documents buckets) = IsUnplaced s hits documents buckets
+
+-- the place in a bucket's list of the record that is asked: that of the hit that is placed there, else the first
+abbrev pub place_asked : Numbers → List Ranked → Option ℕ → ℕ → ℕ
+place_asked s hits None bucket = 0
+place_asked s hits (Some rank) bucket = place_in_bucket s bucket (document_at hits rank)
+
+-- the same, bucket by bucket
+abbrev pub places_asked : Numbers → List Ranked → List (Option ℕ) → List ℕ
+places_asked s hits placed = map (λ b. place_asked s hits (slice_index_or placed b None) b) (range_with_len 0 (bucket_count s.hits))

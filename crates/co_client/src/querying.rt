@@ -1,0 +1,31 @@
+//! Queries, spelled one after another into the body of a request.
+
+ghost use Rattle.std.specs.Prelude.{◌≡◌, ◌++◌, length, OnOk};
+ghost use Rattle.co_ring.specs.Polynomials.{degree_of};
+ghost use Rattle.co_bfv.specs.Draws.{encryption_draw};
+ghost use Rattle.co_wire.specs.Bodies.{cipher_bytes};
+
+use co_bfv::{Secret, encrypt};
+use co_ring::{Modulus, Poly};
+use co_wire::write_ciphers;
+use rand_core::Rng;
+use std::alloc::{AllocError, Global};
+
+/// Encrypts a message, and adds the ciphertext at the end of a body. After an error the rest of the
+/// stream is not stated.
+pub(crate) fn put_query<R: Rng>(
+    alloc: Global,
+    secret: &Secret,
+    message: &Poly,
+    rng: &mut R,
+    body: &mut Vec<u8>,
+) -> Result<(), AllocError>
+    requires plain_modulus { message.now.modulus ≡ Modulus.Plain }
+    requires one_degree { degree_of message.now ≡ length secret.now }
+    ensures spelled { OnOk result (body.new.items ≡ body.old.items ++ cipher_bytes (encryption_draw secret.now message.now.coeffs (R.stream rng.old)).0) }
+    ensures rest { OnOk result (R.stream rng.new ≡ (encryption_draw secret.now message.now.coeffs (R.stream rng.old)).1) }
+{
+    let cipher = [encrypt(alloc, secret, message, rng)?];
+    let bytes = write_ciphers(alloc, &cipher)?;
+    body.extend_from_slice(bytes.as_slice())
+}

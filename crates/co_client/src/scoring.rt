@@ -1,0 +1,159 @@
+//! The round of the scores.
+
+ghost use Rattle.std.specs.Prelude.{◌≡◌, ◌+◌, ◌*◌, ◌^◌, ◌<◌, ◌≤◌, ◌++◌, true, ℕ, List, length, map, take, slice_index, max, min, All, IfOk, IfErr, OnOk};
+ghost use Rattle.co_link.specs.declared.messages.Target.TheVariants as targets;
+ghost use Rattle.co_math.specs.Parameters.{plain_modulus};
+ghost use Rattle.co_noise.specs.Shapes.{document_blocks};
+ghost use Rattle.co_slots.specs.Slots.{slot, AreSlots};
+ghost use Rattle.co_bfv.specs.Ciphertexts.{Ciphertext};
+ghost use Rattle.co_bfv.specs.Encryptions.{decrypted};
+ghost use Rattle.co_bfv.specs.Totals.{ciphertext_at};
+ghost use Rattle.co_matvec.specs.Weights.{keyword_slot};
+ghost use Rattle.co_wire.specs.Bodies.{SpellsCiphers, ciphers_bytes};
+ghost use Rattle.co_wire.specs.Lengths.{cipher_size, reply_size, reply_limit};
+ghost use Rattle.co_rounds.specs.Asked.{AreKeywordMessages, encryptions_draw};
+ghost use Rattle.co_rounds.specs.Scoring.{scores_read};
+ghost use Rattle.co_client.specs.Rounds.{RoundFails, LinkFails, Ranks, queries_request, queries_rest};
+ghost use Rattle.co_client.specs.Scored.{IsKeywordPut, AreKeywordSlots};
+
+use crate::asking::ask;
+use crate::fault::SearchFault;
+use crate::querying::put_query;
+use crate::reading::{check_reply, cipher_at};
+use crate::starting::Reader;
+use co_bfv::decrypt;
+use co_link::{Bytes, Link, Target};
+use co_list::Listed;
+use co_ring::{Degree, Modulus, Poly, Spectrum};
+use co_slots::SlotTable;
+use co_text::{Ranked, ranking};
+use co_wire::{reply_length, request_length};
+use rand_core::Rng;
+use std::alloc::{AllocError, Global};
+
+/// The least that a reply may have, so that the text of a refusal is read.
+pub(crate) const LEAST_LIMIT: u64 = 256;
+
+/// Puts a keyword into the slots of its column in both rows, where it is one of the block's terms.
+fn put_keyword(keyword: u32, block: usize, slots: &mut [u64])
+    requires { 2 ≤ length slots.old }
+    ensures { IsKeywordPut keyword block slots.old slots.new }
+{
+    let half = slots.len() / 2;
+    if keyword as usize / half == block {
+        let column = keyword as usize % half;
+        slots[column] = 1;
+        slots[half + column] = 1;
+    }
+}
+
+/// The slots of the keyword polynomial of a block of terms: 1 where the block's term is a keyword,
+/// in both rows.
+fn fill_slots(keywords: &[u32], block: usize, slots: &mut [u64])
+    requires { 2 ≤ length slots.old }
+    ensures { AreKeywordSlots keywords.now block slots.new }
+{
+    slots.fill(0);
+    for keyword in keywords {
+        put_keyword(*keyword, block, slots);
+    }
+}
+
+/// The body of a request for scores: a query for each block of terms.
+fn score_queries<R: Rng>(
+    alloc: Global,
+    reader: &Reader,
+    keywords: &[u32],
+    rng: &mut R,
+) -> Result<Bytes, AllocError>
+    ensures body { IfOk result (λ body. (messages : List (List ℕ)) → AreKeywordMessages reader.now.shape keywords.now messages
+        → body ≡ ciphers_bytes (encryptions_draw reader.now.secret messages (R.stream rng.old)).0) }
+    ensures rest { OnOk result ((messages : List (List ℕ)) → AreKeywordMessages reader.now.shape keywords.now messages
+        → R.stream rng.new ≡ queries_rest reader.now.secret messages (R.stream rng.old)) }
+{
+    let shape = reader.tested().shape();
+    let degree = Degree::of(shape.degree() as usize);
+    let table = SlotTable::new(alloc, degree)?;
+    let mut scratch = Spectrum::zero(alloc, Modulus::Plain, degree)?;
+    let mut message = Poly::zero(alloc, Modulus::Plain, degree)?;
+    let mut slots = vec![in alloc; 0u64; degree.get() as usize]?;
+    let room = request_length(reader.tested(), Target::Score);
+    let mut body = Vec::with_capacity(alloc, room as usize)?;
+    for block in 0..shape.keyword_blocks() {
+        fill_slots(keywords, block as usize, &mut slots);
+        table.encode(&slots, &mut scratch, &mut message);
+        put_query(alloc, reader.secret(), &message, rng, &mut body)?;
+    }
+    Ok(Bytes::from_vec(body))
+}
+
+/// Adds the scores of the documents of a block, which are the slots of its reply.
+fn add_scores(slots: &[u64], documents: usize, scores: &mut Vec<u32>) -> Result<(), AllocError> {
+    for slot in slots {
+        if scores.len() == documents {
+            return Ok(());
+        }
+        scores.push(*slot as u32)?;
+    }
+    Ok(())
+}
+
+/// The scores of all documents, which the replies show.
+fn read_scores(alloc: Global, reader: &Reader, body: &[u8]) -> Result<Vec<u32>, AllocError>
+    requires { length body.now ≡ reply_size reader.now.shape targets.Score }
+    ensures { IfOk result (λ scores. (cs : List Ciphertext) → SpellsCiphers reader.now.shape.degree (document_blocks reader.now.shape) cs body.now
+        → scores.items ≡ scores_read reader.now.shape reader.now.secret cs) }
+{
+    let shape = reader.tested().shape();
+    let degree = Degree::of(shape.degree() as usize);
+    let documents = shape.documents() as usize;
+    let table = SlotTable::new(alloc, degree)?;
+    let mut scratch = Spectrum::zero(alloc, Modulus::Plain, degree)?;
+    let mut slots = vec![in alloc; 0u64; degree.get() as usize]?;
+    let mut scores = Vec::with_capacity(alloc, documents)?;
+    for block in 0..shape.document_blocks() {
+        let cipher = cipher_at(alloc, degree, body, block as usize)?;
+        let message = decrypt(alloc, reader.secret(), &cipher)?;
+        table.decode(&message, &mut scratch, &mut slots);
+        add_scores(&slots, documents, &mut scores)?;
+    }
+    Ok(scores)
+}
+
+/// Asks for the scores by keywords, which are numbers of terms, and ranks the documents by them.
+/// After an error the rest of the stream is not stated.
+pub fn rank<K: Link, R: Rng>(
+    alloc: Global,
+    link: &mut K,
+    rng: &mut R,
+    reader: &Reader,
+    keywords: &[u32],
+) -> Result<Listed<Ranked>, SearchFault>
+    requires { K.is_ready link.old ≡ true }
+    ensures ranked { IfOk result (λ hits. (messages : List (List ℕ)) → AreKeywordMessages reader.now.shape keywords.now messages
+        → Ranks reader.now.shape reader.now.secret (K.exchanges link.old) (K.exchanges link.new) (queries_request targets.Score reader.now.secret messages (R.stream rng.old)) hits) }
+    ensures rest { OnOk result ((messages : List (List ℕ)) → AreKeywordMessages reader.now.shape keywords.now messages
+        → R.stream rng.new ≡ queries_rest reader.now.secret messages (R.stream rng.old)) }
+    ensures refused { IfErr result (λ fault. (messages : List (List ℕ)) → AreKeywordMessages reader.now.shape keywords.now messages
+        → RoundFails (reply_size reader.now.shape targets.Score) (K.exchanges link.old) (K.exchanges link.new) (queries_request targets.Score reader.now.secret messages (R.stream rng.old)) fault) }
+    ensures cause { LinkFails (K.faults link.old) (K.faults link.new) (K.last_failed link.new) (record { target = targets.Score; limit = reply_limit reader.now.shape targets.Score }) result }
+    ensures few { IfOk result (λ hits. length hits ≤ reader.now.shape.hits) }
+    ensures ready { K.is_ready link.new ≡ true }
+    ensures beside { K.beside link.new ≡ K.beside link.old }
+{
+    let shape = reader.tested().shape();
+    let degree = Degree::of(shape.degree() as usize);
+    let Ok(queries) = score_queries(alloc, reader, keywords, rng) else {
+        return Err(SearchFault::OutOfMemory);
+    };
+    let limit = reply_length(reader.tested(), Target::Score).max(LEAST_LIMIT);
+    let body = ask(link, Target::Score, queries, limit)?;
+    check_reply(alloc, degree, shape.document_blocks(), Target::Score, body.as_slice())?;
+    let Ok(scores) = read_scores(alloc, reader, body.as_slice()) else {
+        return Err(SearchFault::OutOfMemory);
+    };
+    match ranking(alloc, &scores, shape.hits()) {
+        Ok(hits) => Ok(hits),
+        Err(_) => Err(SearchFault::OutOfMemory),
+    }
+}
