@@ -207,8 +207,9 @@ IsAnswered (Ok f) = Unit {0}
 IsAnswered (Err (NoPlacement documents buckets)) = Unit {0}
 IsAnswered (Err fault) = ⊥
 
--- the requests behind the first are, in order, the drawn ones: the rows of the hits that are placed and the bin of the
--- picked document; and where all were made the stream is left behind the draws
+-- the requests behind the first are, in order, the drawn ones. Where records are asked for, the rows are those of the
+-- hits that are placed, and where a bin is, it is that of the picked document; the first rows and the first bin where the
+-- hits can't be placed. Where all were made, the stream is left behind the draws
 pub record Asks (r : Search) (es : List Exchange) (s : Numbers) (terms : List (List ℕ)) (result : Result Found SearchFault) (left : Stream) : Type 0 where
   pub rows : List ℕ
   pub bin : ℕ
@@ -216,7 +217,8 @@ pub record Asks (r : Search) (es : List Exchange) (s : Numbers) (terms : List (L
   pub rest : Stream
   pub drawn : IsAsked s (numbers_of terms (distinct r.query)) rows bin r.stream asked rest
   pub requests : map (λ e. e.request.body) es ≡ take (length es) ([] ∷ bodies_of asked)
-  pub placed_rows : (hits : List Ranked) (placed : List (Option ℕ)) → ReadsHits r es s terms hits → IsPlacement (choices_of s hits) (bucket_count s.hits) placed → rows ≡ rows_asked s hits placed
-  pub unplaced_rows : (hits : List Ranked) (documents buckets : List ℕ) → ReadsHits r es s terms hits → IsUnplaced s hits documents buckets → rows ≡ rows_asked s hits []
-  pub picked_bin : (hits : List Ranked) (records : List Record) → ReadsRecords r es s terms hits (Ok records) → bin ≡ bin_asked (picked_record records r.pick)
+  pub placed_rows : 3 < length es → (hits : List Ranked) (placed : List (Option ℕ)) → ReadsHits r es s terms hits → IsPlacement (choices_of s hits) (bucket_count s.hits) placed → rows ≡ rows_asked s hits placed
+  pub unplaced_rows : 3 < length es → (hits : List Ranked) (documents buckets : List ℕ) → ReadsHits r es s terms hits → IsUnplaced s hits documents buckets → rows ≡ rows_asked s hits []
+  pub picked_bin : 4 < length es → (hits : List Ranked) (records : List Record) → ReadsRecords r es s terms hits (Ok records) → bin ≡ bin_asked (picked_record records r.pick)
+  pub unplaced_bin : 4 < length es → (hits : List Ranked) (documents buckets : List ℕ) → ReadsHits r es s terms hits → IsUnplaced s hits documents buckets → bin ≡ 0
   pub left_is : IsAnswered result → left ≡ rest

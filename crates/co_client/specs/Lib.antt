@@ -6,4 +6,3 @@ pub mod Rounds
 pub mod Openings
 pub mod Placings
 pub mod Published
-pub mod Scored

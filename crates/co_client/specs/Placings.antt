@@ -1,11 +1,12 @@
 -- Where hits are placed, and which records are asked.
-use Rattle.std.specs.Prelude.{◌≡◌, ℕ, List, map, Option, Some, None, slice_index_or}
+use Rattle.std.specs.Prelude.{◌≡◌, ◌<◌, ℕ, List, [], length, map, Option, Some, None, slice_index_or}
 use Rattle.std.specs.List.{range_with_len}
 use Rattle.co_noise.specs.Shapes.{Numbers}
 use Rattle.co_text.specs.declared.ranks.Ranked.{Ranked}
 use Rattle.co_bucket.specs.Lists.{bucket_count}
 use Rattle.co_bucket.specs.Placement.{IsPlacement}
 use Rattle.co_rounds.specs.Placing.{choices_of, document_at, place_in_bucket, IsUnplaced}
+use Rattle.co_client.specs.Records.{bucket_of}
 use Rattle.co_client.specs.declared.placing.Placing.{Placing}
 use Rattle.co_client.specs.declared.placing.Placing.TheVariants.{Placed, Unplaced}
 
@@ -13,6 +14,21 @@ use Rattle.co_client.specs.declared.placing.Placing.TheVariants.{Placed, Unplace
 abbrev pub IsPlacing : Numbers → List Ranked → Placing → Type 0
 IsPlacing s hits (Placed placed) = IsPlacement (choices_of s hits) (bucket_count s.hits) placed
 IsPlacing s hits (Unplaced documents buckets) = IsUnplaced s hits documents buckets
+
+-- bucket by bucket the rank of the hit that is placed there
+abbrev pub by_bucket : Placing → List (Option ℕ)
+by_bucket (Placed placed) = placed
+by_bucket (Unplaced documents buckets) = []
+
+-- the hits whose records are read
+abbrev pub shown_of : Placing → List Ranked → List Ranked
+shown_of (Placed placed) hits = hits
+shown_of (Unplaced documents buckets) hits = []
+
+-- each hit has its bucket
+pub record HaveBuckets (s : Numbers) (hits : List Ranked) (placed : List (Option ℕ)) : Type 0 where
+  pub within : (rank : ℕ) → rank < length hits → bucket_of placed rank < bucket_count s.hits
+  pub there : (rank : ℕ) → rank < length hits → slice_index_or placed (bucket_of placed rank) None ≡ Some rank
 
 -- the place in a bucket's list of the record that is asked: that of the hit that is placed there, else the first
 abbrev pub place_asked : Numbers → List Ranked → Option ℕ → ℕ → ℕ

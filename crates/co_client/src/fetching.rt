@@ -9,7 +9,7 @@ ghost use Rattle.co_wire.specs.Lengths.{reply_size, reply_limit};
 ghost use Rattle.co_rounds.specs.Asked.{encryptions_draw};
 ghost use Rattle.co_rounds.specs.Recording.{is_within_bins};
 ghost use Rattle.co_client.specs.Rounds.{RoundFails, LinkFails, Gives, queries_request, queries_rest, bin_messages};
-ghost use Rattle.co_client.specs.Records.{text_read, picked_read, bin_asked, picked_record};
+ghost use Rattle.co_client.specs.Records.{text_read, picked_read, bin_asked};
 ghost use Rattle.co_client.specs.Faults.{IsReadAs};
 
 use crate::asking::ask;
@@ -82,6 +82,16 @@ pub fn fetch<K: Link, R: Rng>(
     }
 }
 
+/// The bin of a record, the first where there is none.
+pub fn bin_of(picked: Option<&Record>) -> u32
+    ensures { result ≡ bin_asked (option_map (λ r. r.now) picked.entry) }
+{
+    match picked {
+        Some(record) => record.place.bin,
+        None => 0,
+    }
+}
+
 /// The text at a place of the bin that a reply spells.
 #[tactic(auto, unfolding(crate::specs::Records::text_read))]
 fn read_text(
@@ -116,7 +126,7 @@ pub fn read_document(
     picked: Option<&Record>,
 ) -> Result<Option<(u32, Bytes)>, SearchFault>
     requires whole { length body.now ≡ reply_size reader.now.shape targets.Document }
-    requires within { IfSome picked.entry (λ r. is_within_bins reader.now.shape r.now.place ≡ true) }
+    requires within { IfSome picked (λ r. is_within_bins reader.now.shape r.now.place ≡ true) }
     ensures { (cs : List Ciphertext) → SpellsCiphers reader.now.shape.degree reader.now.shape.chunks cs body.now
         → IsReadAs result (picked_read reader.now.secret cs (option_map (λ r. r.now) picked.entry)) }
 {

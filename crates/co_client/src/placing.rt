@@ -9,7 +9,7 @@ ghost use Rattle.co_bucket.specs.Lists.{bucket_count, lists_of};
 ghost use Rattle.co_bucket.specs.Rows.{rows_of};
 ghost use Rattle.co_bucket.specs.Bytes.{record_row};
 ghost use Rattle.co_rounds.specs.Placing.{choices_of, document_at};
-ghost use Rattle.co_client.specs.Placings.{IsPlacing, place_asked, places_asked};
+ghost use Rattle.co_client.specs.Placings.{IsPlacing, by_bucket, shown_of, place_asked, places_asked};
 
 use co_bucket::{
     Lists, MOST_ITEMS, Numbers, PlaceFault, Placement, bucket_lists, buckets, candidates, place,
@@ -26,6 +26,28 @@ pub enum Placing {
     Placed(Placement),
     /// Documents and buckets, ascending, one bucket fewer than documents.
     Unplaced { documents: Numbers, buckets: Numbers },
+}
+
+impl Placing {
+    /// Bucket by bucket the rank of the hit that is placed there; nothing where they can't be placed.
+    pub fn by_bucket(&self) -> &[Option<u32>]
+        ensures { result.now ≡ by_bucket self.now }
+    {
+        match self {
+            Placing::Placed(placed) => placed.as_slice(),
+            Placing::Unplaced { .. } => &[],
+        }
+    }
+
+    /// The hits whose records are read: all of them, or none where they can't be placed.
+    pub fn shown<'h>(&self, hits: &'h [Ranked]) -> &'h [Ranked]
+        ensures { result.now ≡ shown_of self.now hits.now }
+    {
+        match self {
+            Placing::Placed(_) => hits,
+            Placing::Unplaced { .. } => &[],
+        }
+    }
 }
 
 /// The candidate buckets of each hit, by rank.

@@ -7,16 +7,15 @@ ghost use Rattle.co_bucket.specs.Lists.{bucket_count};
 ghost use Rattle.co_bucket.specs.Rows as rows_specs;
 ghost use Rattle.co_bucket.specs.Bytes as layouts;
 ghost use Rattle.co_bucket.specs.Bytes.{record_row};
-ghost use Rattle.co_bucket.specs.Placement.{IsPlacement};
 ghost use Rattle.co_bfv.specs.Ciphertexts.{Ciphertext};
 ghost use Rattle.co_pack.specs.Records.{record_of};
 ghost use Rattle.co_wire.specs.Bodies.{SpellsCiphers, ciphers_bytes};
 ghost use Rattle.co_wire.specs.Lengths.{reply_size, reply_limit};
 ghost use Rattle.co_rounds.specs.Asked.{encryptions_draw};
-ghost use Rattle.co_rounds.specs.Placing.{choices_of, place_in_bucket};
+ghost use Rattle.co_rounds.specs.Placing.{place_in_bucket};
 ghost use Rattle.co_rounds.specs.Recording as recordings;
 ghost use Rattle.co_client.specs.Rounds.{RoundFails, LinkFails, Gives, queries_request, queries_rest, record_messages};
-ghost use Rattle.co_client.specs.Placings.{places_asked};
+ghost use Rattle.co_client.specs.Placings.{places_asked, HaveBuckets};
 ghost use Rattle.co_client.specs.Records as readings;
 ghost use Rattle.co_client.specs.Records.{checked, record_read, records_read};
 ghost use Rattle.co_client.specs.Faults.{IsReadAs};
@@ -208,7 +207,8 @@ pub fn read_records(
     places: &[u32],
 ) -> Result<Listed<Record>, SearchFault>
     requires whole { length body.now ≡ reply_size reader.now.shape targets.Meta }
-    requires placed { IsPlacement (choices_of reader.now.shape hits.now) (bucket_count reader.now.shape.hits) placed.now }
+    requires placed { HaveBuckets reader.now.shape hits.now placed.now }
+    requires few { length hits.now ≤ 64 }
     requires places { places.now ≡ places_asked reader.now.shape hits.now placed.now }
     ensures { (cs : List Ciphertext) (all : ℕ) → SpellsCiphers reader.now.shape.degree all cs body.now
         → IsReadAs result (records_read reader.now.shape reader.now.secret cs placed.now 0 hits.now) }

@@ -1,8 +1,9 @@
 //! The round of the scores.
 
-ghost use Rattle.std.specs.Prelude.{◌≡◌, ◌+◌, ◌*◌, ◌^◌, ◌<◌, ◌≤◌, ◌++◌, true, ℕ, List, length, map, take, slice_index, max, min, All, IfOk, IfErr, OnOk};
+ghost use Rattle.std.specs.Prelude.{◌≡◌, ◌+◌, ◌-◌, ◌*◌, ◌^◌, ◌<◌, ◌≤◌, ◌++◌, true, ℕ, List, length, map, take, slice_index, max, min, All, IfOk, IfErr, OnOk};
 ghost use Rattle.co_link.specs.declared.messages.Target.TheVariants as targets;
 ghost use Rattle.co_math.specs.Parameters.{plain_modulus};
+ghost use Rattle.co_math.specs.Coefficients.{AreBelow};
 ghost use Rattle.co_noise.specs.Shapes.{document_blocks};
 ghost use Rattle.co_slots.specs.Slots.{slot, AreSlots};
 ghost use Rattle.co_bfv.specs.Ciphertexts.{Ciphertext};
@@ -14,7 +15,6 @@ ghost use Rattle.co_wire.specs.Lengths.{cipher_size, reply_size, reply_limit};
 ghost use Rattle.co_rounds.specs.Asked.{AreKeywordMessages, encryptions_draw};
 ghost use Rattle.co_rounds.specs.Scoring.{scores_read};
 ghost use Rattle.co_client.specs.Rounds.{RoundFails, LinkFails, Ranks, queries_request, queries_rest};
-ghost use Rattle.co_client.specs.Scored.{IsKeywordPut, AreKeywordSlots};
 
 use crate::asking::ask;
 use crate::fault::SearchFault;
@@ -34,28 +34,32 @@ use std::alloc::{AllocError, Global};
 /// The least that a reply may have, so that the text of a refusal is read.
 pub(crate) const LEAST_LIMIT: u64 = 256;
 
-/// Puts a keyword into the slots of its column in both rows, where it is one of the block's terms.
-fn put_keyword(keyword: u32, block: usize, slots: &mut [u64])
-    requires { 2 ≤ length slots.old }
-    ensures { IsKeywordPut keyword block slots.old slots.new }
+/// A slot of the keyword polynomial of a block of terms: 1 where the term of its column is a keyword.
+#[tactic(auto, unfolding(co_matvec::specs::Weights::keyword_slot))]
+fn slot_at(keywords: &[u32], degree: usize, block: usize, p: usize) -> u64
+    requires degree { (2 ≤ degree) × (degree ≤ 4096) }
+    requires block { block ≤ 16384 }
+    ensures value { result ≡ keyword_slot degree keywords.now block p }
+    ensures small { result < plain_modulus }
 {
-    let half = slots.len() / 2;
-    if keyword as usize / half == block {
-        let column = keyword as usize % half;
-        slots[column] = 1;
-        slots[half + column] = 1;
+    let half = degree / 2;
+    let term = block * half + p % half;
+    if keywords.iter().any(|keyword| *keyword as usize == term) {
+        1
+    } else {
+        0
     }
 }
 
-/// The slots of the keyword polynomial of a block of terms: 1 where the block's term is a keyword,
-/// in both rows.
+/// The slots of the keyword polynomial of a block of terms.
 fn fill_slots(keywords: &[u32], block: usize, slots: &mut [u64])
-    requires { 2 ≤ length slots.old }
-    ensures { AreKeywordSlots keywords.now block slots.new }
+    requires degree { (2 ≤ length slots.old) × (length slots.old ≤ 4096) }
+    requires block { block ≤ 16384 }
+    ensures slots { (p : ℕ) → p < length slots.old → slice_index slots.new p ≡ keyword_slot (length slots.old) keywords.now block p }
+    ensures small { AreBelow plain_modulus slots.new }
 {
-    slots.fill(0);
-    for keyword in keywords {
-        put_keyword(*keyword, block, slots);
+    for p in 0..slots.len() {
+        slots[p] = slot_at(keywords, slots.len(), block, p);
     }
 }
 
@@ -87,12 +91,13 @@ fn score_queries<R: Rng>(
     Ok(Bytes::from_vec(body))
 }
 
-/// Adds the scores of the documents of a block, which are the slots of its reply.
-fn add_scores(slots: &[u64], documents: usize, scores: &mut Vec<u32>) -> Result<(), AllocError> {
-    for slot in slots {
-        if scores.len() == documents {
-            return Ok(());
-        }
+/// Adds the scores of the documents of a block, which are the first slots of its reply.
+fn add_scores(slots: &[u64], documents: usize, scores: &mut Vec<u32>) -> Result<(), AllocError>
+    requires { AreBelow plain_modulus slots.now }
+    ensures { OnOk result (scores.new.items ≡ scores.old.items ++ take (documents - length scores.old.items) slots.now) }
+{
+    let count = slots.len().min(documents.saturating_sub(scores.len()));
+    for slot in &slots[..count] {
         scores.push(*slot as u32)?;
     }
     Ok(())

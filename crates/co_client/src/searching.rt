@@ -1,18 +1,29 @@
 //! The search.
 
-ghost use Rattle.std.specs.Prelude.{◌≡◌, ◌≤◌, ◌<◌, ◌^◌, min, ℕ, List, Option, Some, true, length, Result, Ok, IfOk, IfErr};
+ghost use Rattle.std.specs.Prelude.{◌≡◌, ◌≤◌, ℕ, List, Option, Some, true, length, Ok, IfOk, IfErr};
 ghost use Rattle.co_text.specs.Terms.{terms, distinct};
+ghost use Rattle.co_link.specs.declared.messages.Exchange.{Exchange};
+ghost use Rattle.co_noise.specs.Shapes.{Numbers};
+ghost use Rattle.co_noise.specs.Bounds.{test_of};
+ghost use Rattle.co_corpus.specs.declared.documents.Document.{Document};
+ghost use Rattle.co_library.specs.declared.settings.Settings.{Settings};
+ghost use Rattle.co_library.specs.Libraries.{Parts};
+ghost use Rattle.co_rounds.specs.Honest.{AreHonest};
+ghost use Rattle.co_rounds.specs.Plans.{made, Extends, FollowsPlan, IsWholePlan};
+ghost use Rattle.co_rounds.specs.Recording.{IsLibraryFor};
+ghost use Rattle.co_client.specs.Causes.{Search, Publishes, IsRead, IsCause, IsCauseUntold, IsAnswered, Asks};
+ghost use Rattle.co_client.specs.Plain.{AnswersPlainly};
 ghost use Rattle.co_client.specs.Faults.{IsManyTerms};
 ghost use Rattle.co_client.specs.Records.{hits_shown};
 
 use crate::fault::SearchFault;
-use crate::fetching::{fetch, read_document};
+use crate::fetching::{bin_of, fetch, read_document};
 use crate::placing::{Placing, place_hits, places};
 use crate::publishing::consult;
 use crate::recording::{gather, read_records};
 use crate::scoring::rank;
-use crate::starting::{Reader, start};
-use co_link::{Bytes, Link};
+use crate::starting::start;
+use co_link::Link;
 use co_list::Listed;
 use co_pack::Record;
 use co_text::{Found, Hit, Hits, QueryFault, Ranked, Terms, query_terms};
@@ -54,43 +65,6 @@ fn with_titles(
     Ok(hits)
 }
 
-/// The rounds of the records and of the document where the hits are placed: the hits with their
-/// titles, and the picked document's number and text.
-fn read_hits<K: Link, R: Rng>(
-    alloc: Global,
-    link: &mut K,
-    rng: &mut R,
-    reader: &Reader,
-    hits: &[Ranked],
-    placed: &[Option<u32>],
-    pick: u32,
-) -> Result<(Hits, Option<(u32, Bytes)>), SearchFault> {
-    let places = places(alloc, reader.tested().shape(), hits, placed)?;
-    let body = gather(alloc, link, rng, reader, &places)?;
-    let records = read_records(alloc, reader, body.as_slice(), hits, placed, &places)?;
-    let picked = records.as_slice().get(pick as usize - 1);
-    let bin = match picked {
-        Some(record) => record.place.bin,
-        None => 0,
-    };
-    let body = fetch(alloc, link, rng, reader, bin)?;
-    let document = read_document(alloc, reader, body.as_slice(), picked)?;
-    Ok((with_titles(alloc, hits, records)?, document))
-}
-
-/// The same rounds where the hits can't be placed: rows and a bin that nobody needs are asked.
-fn ask_in_vain<K: Link, R: Rng>(
-    alloc: Global,
-    link: &mut K,
-    rng: &mut R,
-    reader: &Reader,
-) -> Result<(), SearchFault> {
-    let places = places(alloc, reader.tested().shape(), &[], &[])?;
-    gather(alloc, link, rng, reader, &places)?;
-    fetch(alloc, link, rng, reader, 0)?;
-    Ok(())
-}
-
 /// Searches a library over a link: the hits by score with their titles, the query's unknown terms,
 /// and the document of the pick-th hit.
 ///
@@ -104,24 +78,83 @@ pub fn search<K: Link, R: Rng>(
     rng: &mut R,
     query: &str,
     pick: u32,
-) -> Result<Found, SearchFault> {
-    let keywords = keywords_of(alloc, query)?;
-    let published = consult(alloc, link, &keywords)?;
-    let reader = start(alloc, link, rng, &published.tested)?;
-    let ranked = rank(alloc, link, rng, &reader, published.keywords.as_slice())?;
-    let ranked = ranked.as_slice();
-    match place_hits(alloc, reader.tested().shape(), ranked)? {
-        Placing::Placed(placed) => {
-            let placed = placed.as_slice();
-            let (hits, document) = read_hits(alloc, link, rng, &reader, ranked, placed, pick)?;
-            Ok(Found {
-                hits,
-                unknown: published.unknown,
-                document,
-            })
-        }
+) -> Result<Found, SearchFault>
+    requires pick { (1 ≤ pick) × (pick ≤ 64) }
+    requires ready { K.is_ready link.old ≡ true }
+    // Over exchanges that are honest to the library of a corpus: the plain answer exactly where its hits can be placed.
+    ensures plain { (es : List Exchange) → made (K.exchanges link.old) (K.exchanges link.new) ≡ Some es
+        → (documents : List Document) (settings : Settings) (l : Parts) (held : Option (List ℕ)) → IsLibraryFor documents settings l → AreHonest l held es
+        → AnswersPlainly documents settings l (terms query.now) pick result }
+    // Over any exchanges: number, order and lengths of the requests follow the published parameters.
+    ensures planned { (es : List Exchange) → made (K.exchanges link.old) (K.exchanges link.new) ≡ Some es → FollowsPlan es }
+    ensures whole { (es : List Exchange) → made (K.exchanges link.old) (K.exchanges link.new) ≡ Some es → IsAnswered result → IsWholePlan es }
+    // What is answered is read from the exchanges, and each refusal has its cause there.
+    ensures read { (es : List Exchange) → made (K.exchanges link.old) (K.exchanges link.new) ≡ Some es
+        → IfOk result (IsRead (record { query = terms query.now; pick = pick; stream = R.stream rng.old; before = K.faults link.old; now = K.faults link.new; last_failed = K.last_failed link.new }) es) }
+    ensures refused { (es : List Exchange) → made (K.exchanges link.old) (K.exchanges link.new) ≡ Some es
+        → IfErr result (IsCause (record { query = terms query.now; pick = pick; stream = R.stream rng.old; before = K.faults link.old; now = K.faults link.new; last_failed = K.last_failed link.new }) es) }
+    ensures untold { IfErr result (IsCauseUntold (record { query = terms query.now; pick = pick; stream = R.stream rng.old; before = K.faults link.old; now = K.faults link.new; last_failed = K.last_failed link.new })) }
+    // The requests are the drawn ones.
+    ensures asked { (es : List Exchange) → made (K.exchanges link.old) (K.exchanges link.new) ≡ Some es
+        → (s : Numbers) (ts : List (List ℕ)) → Publishes es s ts → test_of s ≡ Ok s
+        → Asks (record { query = terms query.now; pick = pick; stream = R.stream rng.old; before = K.faults link.old; now = K.faults link.new; last_failed = K.last_failed link.new }) es s ts result (R.stream rng.new) }
+    ensures extends { Extends (K.exchanges link.old) (K.exchanges link.new) }
+    ensures faults { K.faults link.old ≤ K.faults link.new }
+    ensures ready { K.is_ready link.new ≡ true }
+    ensures beside { K.beside link.new ≡ K.beside link.old }
+{
+    let keywords = match keywords_of(alloc, query) {
+        Ok(keywords) => keywords,
+        Err(fault) => return Err(fault),
+    };
+    let published = match consult(alloc, link, &keywords) {
+        Ok(published) => published,
+        Err(fault) => return Err(fault),
+    };
+    let reader = match start(alloc, link, rng, &published.tested) {
+        Ok(reader) => reader,
+        Err(fault) => return Err(fault),
+    };
+    let ranked = match rank(alloc, link, rng, &reader, published.keywords.as_slice()) {
+        Ok(ranked) => ranked,
+        Err(fault) => return Err(fault),
+    };
+    let shape = reader.tested().shape();
+    let Ok(placing) = place_hits(alloc, shape, ranked.as_slice()) else {
+        return Err(SearchFault::OutOfMemory);
+    };
+    let shown = placing.shown(ranked.as_slice());
+    let Ok(spots) = places(alloc, shape, shown, placing.by_bucket()) else {
+        return Err(SearchFault::OutOfMemory);
+    };
+    let body = match gather(alloc, link, rng, &reader, &spots) {
+        Ok(body) => body,
+        Err(fault) => return Err(fault),
+    };
+    let placed = placing.by_bucket();
+    let records = match read_records(alloc, &reader, body.as_slice(), shown, placed, &spots) {
+        Ok(records) => records,
+        Err(fault) => return Err(fault),
+    };
+    let picked = records.as_slice().get(pick as usize - 1);
+    let body = match fetch(alloc, link, rng, &reader, bin_of(picked)) {
+        Ok(body) => body,
+        Err(fault) => return Err(fault),
+    };
+    let document = match read_document(alloc, &reader, body.as_slice(), picked) {
+        Ok(document) => document,
+        Err(fault) => return Err(fault),
+    };
+    let Ok(hits) = with_titles(alloc, shown, records) else {
+        return Err(SearchFault::OutOfMemory);
+    };
+    match placing {
+        Placing::Placed(_) => Ok(Found {
+            hits,
+            unknown: published.unknown,
+            document,
+        }),
         Placing::Unplaced { documents, buckets } => {
-            ask_in_vain(alloc, link, rng, &reader)?;
             Err(SearchFault::NoPlacement { documents, buckets })
         }
     }
