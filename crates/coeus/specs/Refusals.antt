@@ -1,5 +1,5 @@
 -- Why the program refuses, with which status, and what it says.
-use Rattle.std.specs.Prelude.{ℕ, ◌==◌, if◌then◌else◌, List, [], ◌∷◌, ◌++◌, codes, decimal}
+use Rattle.std.specs.Prelude.{ℕ, ◌==◌, if◌then◌else◌, List, [], ◌∷◌, ◌++◌, map, codes, decimal}
 use Rattle.co_link.specs.Causes.{Rose}
 use Rattle.co_link.specs.declared.files.FileKind.{FileKind}
 use Rattle.co_link.specs.declared.files.FileKind.TheVariants.{Read, Write}
@@ -17,6 +17,7 @@ use Rattle.co_client.specs.declared.fault.SearchFault.{SearchFault}
 use Rattle.co_client.specs.declared.fault.SearchFault.TheVariants as searching
 use Rattle.coeus.specs.declared.refusals.Refusal.{Refusal}
 use Rattle.coeus.specs.declared.refusals.Refusal.TheVariants.{Words, Corpus, CorpusTooLong, Publish, LibraryTooLong, Library, Test, Keywords, Search, File, Output, Memory}
+use Rattle.coeus.specs.Words.{spaced}
 use Rattle.coeus.specs.Outside.{SinkState, Took}
 
 -- ---- statuses
@@ -136,14 +137,13 @@ byte_text target reply place = flat (codes "not a byte " ∷ round_name target �
     ∷ decimal reply ∷ codes " " ∷ decimal place ∷ [])
 
 -- numbers, each with a space before it
-abbrev pub each_spaced : List ℕ → List ℕ
-each_spaced [] = []
-each_spaced (n ∷ ns) = codes " " ++ decimal n ++ each_spaced ns
+abbrev pub numbers_text : List ℕ → List ℕ
+numbers_text numbers = spaced (map decimal numbers)
 
 -- documents, and their buckets, of which there are too few
 abbrev pub witness_text : List ℕ → List ℕ → List ℕ
-witness_text documents buckets = codes "no placement: documents" ++ (each_spaced documents
-    ++ (codes " buckets" ++ each_spaced buckets))
+witness_text documents buckets = codes "no placement: documents" ++ (numbers_text documents
+    ++ (codes " buckets" ++ numbers_text buckets))
 
 abbrev pub search_text : SearchFault → List ℕ
 search_text (searching.TooManyKeywords found) =

@@ -123,7 +123,7 @@ pub fn plain<F: Files, O: Sink>(
     files: &mut F,
     out: &mut O,
 ) -> Result<(), Refusal>
-    ensures ended { (random : Stream) → Ended (SpokenPlain (plain_shown command.now))
+    ensures { (random : Stream) → Ended (SpokenPlain (plain_shown command.now))
         (outside_of (F.held files.old) (F.faults files.old) (F.last_failed files.old)
         random (O.put_so_far out.old) (O.faults out.old))
         (outside_of (F.held files.new) (F.faults files.new) (F.last_failed files.new)

@@ -1,10 +1,10 @@
 //! Why a search over a link gives no answer: its status, and the line that says it.
-ghost use Rattle.std.specs.Prelude.{◌≡◌, ◌≤◌, ◌++◌, map};
+ghost use Rattle.std.specs.Prelude.{◌≡◌, ◌≤◌};
 ghost use Rattle.co_link.specs.Causes.{Rose};
 ghost use Rattle.co_link.specs.Held.{TookWhole};
 ghost use Rattle.coeus.specs.Outside.{sink_state};
 ghost use Rattle.coeus.specs.Refusals.{round_name, status_of_refused, status_of_search};
-ghost use Rattle.coeus.specs.Refusals.{round_text, two_numbers, byte_text, each_spaced};
+ghost use Rattle.coeus.specs.Refusals.{round_text, two_numbers, byte_text, numbers_text};
 ghost use Rattle.coeus.specs.Refusals.{witness_text, search_text, Says};
 
 use crate::refusals::{put_parts, say, say_number, say_test};
@@ -92,7 +92,7 @@ fn say_byte<E: Sink>(target: Target, reply: u32, place: u32, err: &mut E)
 fn put_numbers<E: Sink>(numbers: &[u32], err: &mut E)
     ensures later { E.faults err.old ≤ E.faults err.new }
     ensures says { ¬ (Rose (E.faults err.old) (E.faults err.new)) →
-        TookWhole (E.put_so_far err.old) (E.put_so_far err.new) (each_spaced numbers.now) }
+        TookWhole (E.put_so_far err.old) (E.put_so_far err.new) (numbers_text numbers.now) }
 {
     for number in numbers {
         let mut digits = Buffer::new();
