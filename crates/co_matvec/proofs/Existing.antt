@@ -1,5 +1,5 @@
 -- Each diagonal has its polynomial.
-use Rattle.std.proofs.Common.{◌≡◌, ℕ, zero, suc, ◌+◌, ◌*◌, ◌-◌, ◌/◌, ◌%◌, ◌^◌, ◌<◌, refl, sym, ap, subst, ◌∙◌, arith, Bool, true, false, cond, ℤ, pos, ◌*ℤ◌, List, [], ◌∷◌, length, get_or, map, All}
+use Rattle.std.proofs.Common.{◌≡◌, ℕ, suc, ◌+◌, ◌*◌, ◌/◌, ◌%◌, ◌^◌, ◌<◌, sym, subst, ◌∙◌, arith, Bool, true, false, cond, List, [], ◌∷◌, length, get_or, map, All}
 use Rattle.std.specs.List.{range_with_len}
 use Rattle.std.specs.Prelude.{◌==◌, ◌&&◌}
 use Rattle.std.proofs.lemmas.List.FromFn.{length-map-range_with_len, get_or-map-range_with_len}
@@ -7,7 +7,7 @@ use Rattle.co_math.specs.Parameters.{plain_modulus}
 use Rattle.co_math.specs.Coefficients.{AreBelow, IsDegree}
 use Rattle.co_slots.proofs.Interpolated.{has_polynomial}
 use Rattle.co_matvec.specs.Weights.{WeightMatrix, weight_of, diagonal_slot}
-use Rattle.co_matvec.specs.Replies.{HasSlots, IsDiagonal, AreDiagonals}
+use Rattle.co_matvec.specs.Replies.{HasSlots, AreDiagonals}
 
 -- a polynomial with given slots
 has_slots : (n : ℕ) (slots : ℕ → ℕ) → IsDegree n → ((p : ℕ) → p < n → slots p < plain_modulus) → (xs : List ℕ) × HasSlots n slots xs

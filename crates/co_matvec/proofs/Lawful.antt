@@ -1,5 +1,5 @@
 -- What score replies mean, by the formulas alone.
-use Rattle.std.proofs.Common.{◌≡◌, ℕ, ◌<◌, sym, subst, List, length, get_or}
+use Rattle.std.proofs.Common.{ℕ, ◌<◌, sym, subst, List, length, get_or}
 use Rattle.co_bfv.specs.Ciphertexts.{Ciphertext}
 use Rattle.co_bfv.specs.Totals.{no_ciphertext, IsOfDegree}
 use Rattle.co_switch.specs.Keys.{Keys}

@@ -9,9 +9,10 @@ pub mod Only
 pub mod Lawful
 pub mod Adding
 pub mod Existing
-pub mod Rotations
+pub mod Reaching
 pub mod Walking
 pub mod Partition
 pub mod Roots
 pub mod Counting
 pub mod Working
+pub mod Chained

@@ -15,7 +15,7 @@ use Rattle.co_rot.proofs.Rotated.{AreRotationKeys, rotation-degree}
 use Rattle.co_rot.proofs.Keyed.{rotation_keys_are, read_as}
 use Rattle.co_rot.proofs.Crowns.{crown-read, length-crown, root-below}
 use Rattle.co_matvec.specs.Weights.{WeightMatrix, keyword_blocks}
-use Rattle.co_matvec.specs.Replies.{CanScore, turned_query}
+use Rattle.co_matvec.specs.Replies.{CanScore}
 use Rattle.co_matvec.specs.Units.{AreRoots, unit_count}
 use Rattle.co_crew.proofs.Unit_sums.{IsPlaced, placed}
 

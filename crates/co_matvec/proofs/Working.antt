@@ -1,12 +1,12 @@
 -- What a worker of a score holds.
-use Rattle.std.proofs.Common.{◌≡◌, ℕ, zero, suc, ◌+◌, ◌*◌, ◌/◌, ◌%◌, ◌^◌, ◌<◌, refl, sym, ap, subst, ◌∙◌, List, [], ◌∷◌, ◌++◌, length, get_or, All}
+use Rattle.std.proofs.Common.{◌≡◌, ℕ, zero, suc, ◌+◌, ◌*◌, ◌/◌, ◌%◌, ◌^◌, ◌<◌, sym, ap, subst, ◌∙◌, List, [], ◌∷◌, ◌++◌, length, get_or}
 use Rattle.std.proofs.lemmas.List.{get_or_default}
-use Rattle.co_bfv.specs.Ciphertexts.{Ciphertext, ciphertext_degree, zero_ciphertext}
+use Rattle.co_bfv.specs.Ciphertexts.{Ciphertext, ciphertext_degree}
 use Rattle.co_bfv.specs.Totals.{no_ciphertext, ciphertext_at}
 use Rattle.co_switch.specs.Keys.{keys_degree}
 use Rattle.co_rot.specs.Rotations.{rotation}
 use Rattle.co_rot.specs.Subtrees.{crown_bits, subtree_bits, HasVisited}
-use Rattle.co_crew.specs.Sums.{AreAdded}
+use Rattle.co_matvec.specs.Sums.{AreEmpty, AreAdded}
 use Rattle.co_matvec.specs.Weights.{document_blocks}
 use Rattle.co_matvec.specs.Replies.{CanScore}
 use Rattle.co_matvec.specs.Units.{Scored, Summing, Visits, AreUnitSums, AreRoots, IsPartOf, unit_count}
@@ -19,13 +19,13 @@ weights-kept turned first zero before after h = ap (λ (s : Summing). s.weights)
 weights-kept turned first (suc count) before after h = let last : Visits h.0 (first + count) (turned (first + count)) after = h.2 in last.weights ∙ weights-kept turned first count before h.0 h.1
 
 module _ (score : Scored) (can : CanScore score.weights score.keys score.query) where
-  pub none_part : (held : Summing) → held.weights ≡ score.weights → length held.replies ≡ document_blocks score.weights → All (λ c. c ≡ zero_ciphertext score.weights.degree) held.replies → IsPartOf score [] held
-  none_part held e len zeros = record { weights = e; sums = none_summed score.weights score.keys score.query held.replies can.degree len zeros }
+  pub none_part : (held : Summing) → held.weights ≡ score.weights → length held.sums ≡ document_blocks score.weights → AreEmpty score.weights.degree held.sums → IsPartOf score [] held
+  none_part held e len empty = record { weights = e; sums = none_summed score.weights score.keys score.query held.sums len empty }
 
-  pub both_parts : (before others after : Summing) → after.weights ≡ before.weights → AreAdded before.replies others.replies after.replies → (us vs : List ℕ) → IsPartOf score us before → IsPartOf score vs others → IsPartOf score (us ++ vs) after
+  pub both_parts : (before others after : Summing) → after.weights ≡ before.weights → AreAdded before.sums others.sums after.sums → (us vs : List ℕ) → IsPartOf score us before → IsPartOf score vs others → IsPartOf score (us ++ vs) after
   both_parts before others after e added us vs h g = record {
     weights = e ∙ h.weights;
-    sums = both_summed score.weights score.keys score.query us vs before.replies others.replies after.replies can.degree h.sums g.sums added;
+    sums = both_summed score.weights score.keys score.query us vs before.sums others.sums after.sums h.sums g.sums added;
   }
 
   module _ (roots : List Ciphertext) (r : AreRoots score.keys score.query (unit_count score.weights score.keys) roots) (unit count size : ℕ) (l : unit < unit_count score.weights score.keys)
@@ -39,7 +39,7 @@ module _ (score : Scored) (can : CanScore score.weights score.keys score.query) 
     pub root_degree : (d : Ciphertext) → ciphertext_degree (get_or roots unit d) ≡ keys_degree score.keys
     root_degree d = ap ciphertext_degree (get_or_default roots unit d no_ciphertext inside) ∙ root-degree score.weights score.keys score.query roots can r unit l ∙ sym can.keys_of_degree
 
-    pub add_part : (old begun new : Summing) (d : Ciphertext) → begun ≡ record { weights = old.weights; block = unit / count; replies = old.replies }
+    pub add_part : (old begun new : Summing) (d : Ciphertext) → begun ≡ record { weights = old.weights; block = unit / count; sums = old.sums }
         → ((q : Ciphertext) → get_or roots unit d ≡ rotation score.keys q (unit % count * size) → HasVisited Visits (rotation score.keys q) (unit % count * size) (2 ^ subtree_bits score.keys) begun new)
         → (us : List ℕ) → IsPartOf score us old → IsPartOf score (us ++ unit ∷ []) new
     add_part old begun new d begun_is walk us h =
@@ -50,5 +50,5 @@ module _ (score : Scored) (can : CanScore score.weights score.keys score.query) 
         record {
           weights = weights-kept (rotation score.keys q) (unit % 2 ^ crown_bits score.keys * 2 ^ subtree_bits score.keys) (2 ^ subtree_bits score.keys) begun new visited ∙ same;
           sums = unit_added score.weights score.keys score.query us unit begun new can.keys_of_degree l same (ap (λ (s : Summing). s.block) begun_is ∙ ap (λ x. unit / x) count_is)
-              (subst (AreUnitSums score.weights score.keys score.query us) (sym (ap (λ (s : Summing). s.replies) begun_is)) h.sums) visited;
+              (subst (AreUnitSums score.weights score.keys score.query us) (sym (ap (λ (s : Summing). s.sums) begun_is)) h.sums) visited;
         }

@@ -9,8 +9,10 @@
 //! queries, and how ciphertexts are spelled in bytes.
 #![tactic(auto)]
 
+mod chains;
 mod diagonals;
 mod laws;
+mod matrix;
 mod scores;
 #[cfg(test)]
 mod tests;

@@ -41,6 +41,8 @@ impl Loaded {
         requires { tested ≡ library.shape }
         ensures { IfOk result (λ l. l ≡ library) }
     {
+        let _ = library.shape();
+        let _ = tested.shape();
         let weights = weights_of(alloc, &library)?;
         let buckets = bucket_rows(alloc, &library, &tested)?;
         let bins = bin_rows(alloc, &library, &tested)?;

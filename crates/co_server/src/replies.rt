@@ -2,7 +2,7 @@
 
 ghost use Rattle.std.specs.Prelude.{◌≡◌, IfOk, IsOk, string_bytes};
 ghost use Rattle.co_rounds.specs.Answers as answers;
-ghost use Rattle.co_server.specs.Local.{IsEmptyDone};
+ghost use Rattle.co_server.specs.Kept.{IsEmptyDone};
 
 use co_link::{Bytes, Reply};
 use co_rounds::Answer;

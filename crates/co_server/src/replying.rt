@@ -186,7 +186,17 @@ fn gather<R: Threads + Sync, G: Gate, L>(
 {
     let mut replies = Vec::new(alloc);
     for b in 0..queries.len() {
-        let mut more = bucket_reply(rt, alloc, loaded, keys, b, &queries[b], workers, gate, steps)?;
+        let mut more = bucket_reply(
+            rt,
+            alloc,
+            loaded,
+            keys,
+            b,
+            &queries[b],
+            workers,
+            gate,
+            steps,
+        )?;
         replies.append(&mut more)?;
     }
     Ok(replies)

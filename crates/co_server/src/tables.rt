@@ -58,6 +58,7 @@ pub(crate) fn bucket_rows(
     ensures { IfOk result (λ ts. ts.items ≡ map (bucket_table library.now) (range_with_len 0 (bucket_count library.now.shape.hits))) }
 {
     let shape = library.shape();
+    let _ = shape.degree();
     let count = buckets(shape.hits());
     let lists = bucket_lists(alloc, shape.salt(), count, shape.documents())?;
     let mut tables = Vec::with_capacity(alloc, count as usize)?;
@@ -98,7 +99,7 @@ fn spelled(alloc: Global, library: &Library, list: &[u32]) -> Result<Vec<u8>, Al
     let size = shape.rows() as usize * row_size(shape.degree());
     let mut bytes = Vec::with_capacity(alloc, size)?;
     for document in list {
-        put_record(&mut bytes, library, *document)?;
+        bytes.extend_from_slice(record_of(library, *document))?;
     }
     pad(&mut bytes, size)?;
     Ok(bytes)
@@ -112,15 +113,15 @@ fn row_size(degree: u32) -> usize
     RECORD_BYTES.max(2 * degree as usize)
 }
 
-/// Adds the record of a document at the end.
-fn put_record(out: &mut Vec<u8>, library: &Library, document: u32) -> Result<(), AllocError>
+/// The record of a document.
+fn record_of(library: &Library, document: u32) -> &[u8]
     requires { document < library.now.shape.documents }
-    ensures { OnOk result (out.new.items ≡ out.old.items ++ record_at library.now.records document) }
+    ensures { result.now ≡ record_at library.now.records document }
 {
     let _ = library.shape();
     let records = library.records();
     let start = document as usize * RECORD_BYTES;
-    out.extend_from_slice(&records[start..start + RECORD_BYTES])
+    &records[start..start + RECORD_BYTES]
 }
 
 /// Adds zeros at the end, up to a size.
@@ -128,7 +129,8 @@ fn pad(out: &mut Vec<u8>, size: usize) -> Result<(), AllocError>
     ensures { OnOk result (out.new.items ≡ out.old.items ++ replicate (size - length out.old.items) 0) }
 {
     let missing = size.saturating_sub(out.len());
-    for _ in 0..missing {
+    for added in 0..missing {
+        let _ = added;
         out.push(0)?;
     }
     Ok(())

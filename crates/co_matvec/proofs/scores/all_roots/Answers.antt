@@ -1,5 +1,5 @@
 -- The roots of one block after another.
-use Rattle.std.proofs.Common.{◌≡◌, ◌<◌, sym, subst, arith, List, length}
+use Rattle.std.proofs.Common.{sym, subst, arith, List, length}
 use Rattle.co_bfv.specs.Ciphertexts.{Ciphertext}
 use Rattle.co_matvec.proofs.Roots.{AreGathered, none_gathered, more_gathered, gathered-risen, gathered-ended, all_gathered, all_stepped, all_risen}
 use Rattle.co_matvec.proofs.scores.all_roots.Goals as goal

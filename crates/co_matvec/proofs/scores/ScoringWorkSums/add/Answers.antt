@@ -1,5 +1,5 @@
 -- One unit more.
-use Rattle.std.proofs.Common.{◌≡◌, ℕ, ◌*◌, ◌/◌, ◌%◌, ◌^◌, ◌<◌, ap, subst, sym, ◌∙◌, arith, ◌∷◌, [], ◌++◌}
+use Rattle.std.proofs.Common.{◌≡◌, ◌*◌, ◌%◌, ◌^◌, ◌<◌, subst, sym, ◌∙◌, arith, ◌∷◌, [], ◌++◌}
 use Rattle.std.proofs.lemmas.Nat.{pow_pos}
 use Rattle.co_rot.specs.Subtrees.{crown_bits, subtree_bits}
 use Rattle.co_rot.proofs.Crowns.{root-fits}

@@ -1,5 +1,5 @@
 -- The sums of both workers' units.
-use Rattle.std.proofs.Common.{◌≡◌, ap, subst, sym, ◌∙◌, ◌++◌}
+use Rattle.std.proofs.Common.{subst, sym, ◌++◌}
 use Rattle.co_matvec.specs.Units.{Scored, IsPartOf}
 use Rattle.co_matvec.proofs.Working.{both_parts}
 use Rattle.co_matvec.proofs.scores.ScoringWorkSums.merge.Goals as goal
