@@ -1,6 +1,17 @@
+pub mod Results
 pub mod Spelled
+pub mod Ranged
 pub mod Opened
+pub mod Firsts
 pub mod Drawn
 pub mod Scores
 pub mod Sizes
 pub mod Trails
+pub mod Exchanged
+pub mod Unique
+pub mod Asking
+pub mod Told
+pub mod Messages
+pub mod Ends
+pub mod RecordFaults
+pub mod Finishes

@@ -1,23 +1,52 @@
 -- A part of a reply, opened one ciphertext after another.
-use Rattle.std.proofs.Common.{◌≡◌, ℕ, zero, suc, ◌+◌, ◌-◌, ◌*◌, ◌<◌, ◌≤◌, refl, sym, ap, subst, ◌∙◌, ⊎_elim, arith, ℤ, List, [], ◌∷◌, ◌++◌, length, get_or, take, drop, Option, Some, None, Result, Ok, Err, eqb}
-use Rattle.std.specs.Prelude.{All, ◌==◌}
-use Rattle.std.specs.List.{position}
+use Rattle.std.proofs.Common.{◌≡◌, ℕ, zero, suc, ◌+◌, ◌-◌, ◌*◌, ◌<◌, ◌≤◌, refl, sym, ap, subst, ◌∙◌, ⊎_elim, arith, ℤ, List, [], ◌∷◌, ◌++◌, length, get_or, take, drop, Result, Ok, Err}
+use Rattle.std.specs.Prelude.{All, IfOk, IfErr, OnOk}
 use Rattle.std.proofs.lemmas.Bool.{cases_lt}
 use Rattle.std.proofs.Math.Nat.{mul-le-mul_right}
-use Rattle.std.proofs.lemmas.List.{get_or-take, get_or-drop, length-take, length-drop}
+use Rattle.std.proofs.lemmas.List.Concat.{flat_map-cons}
+use Rattle.std.proofs.lemmas.List.{append-nil, get_or-take, get_or-drop, length-take, length-drop}
 use Rattle.std.proofs.lemmas.List.Elements.{All-get_or, All-from_get_or}
 use Rattle.co_math.specs.Coefficients.{AreBelow}
 use Rattle.co_slots.specs.Payloads.{IsPayload, IsFirstNoByte}
 use Rattle.co_slots.specs.Faults.{IsCause}
 use Rattle.co_slots.specs.declared.payloads.ByteFault.{ByteFault}
+use Rattle.co_slots.specs.declared.payloads.ByteFault.TheVariants.{NotByte, OutOfMemory}
 use Rattle.co_bfv.specs.Ciphertexts.{Ciphertext, ciphertext_degree}
 use Rattle.co_bfv.specs.Totals.{ciphertext_at, no_ciphertext}
 use Rattle.co_bfv.specs.Encryptions.{decrypted}
-use Rattle.co_pir.specs.Openings.{opened_reply, IsCauseFrom}
-use Rattle.co_pir.proofs.Revealing.{IsOpening, opening-first, opening-more, opening-all, opening-whole, opening-fault}
+use Rattle.co_pir.specs.Openings.{opened_reply, IsNoByteFrom, IsCauseFrom}
+use Rattle.co_pir.proofs.Revealing.{IsOpening, payload-append, length-decrypted, opening-first, opening-more, opening-all, opening-whole, opening-fault}
 use Rattle.co_wire.specs.Bodies.{SpellsCiphers}
-use Rattle.co_client.specs.Openings.{part_of}
+use Rattle.co_client.specs.Openings.{part_of, IsPlaceBelow}
 use Rattle.co_client.proofs.Spelled.{spelled-long}
+
+-- ---- one ciphertext
+
+opened-single : (secret : List ℤ) (c : Ciphertext) → opened_reply secret (c ∷ []) ≡ decrypted secret c
+opened-single secret c = flat_map-cons (decrypted secret) c [] ∙ append-nil (decrypted secret c)
+
+pub at-bytes : (secret : List ℤ) (c : Ciphertext) (r : Result (List ℕ) ByteFault) → IfOk r (λ bytes. IsPayload bytes (opened_reply secret (c ∷ [])))
+    → IfOk r (λ bytes. (d : Ciphertext) → c ≡ d → IsPayload bytes (decrypted secret d))
+at-bytes secret c (Ok bytes) h = λ d e. subst (λ (x : List ℕ). IsPayload bytes x) (opened-single secret c ∙ ap (decrypted secret) e) h
+at-bytes secret c (Err fault) h = tt
+
+pub at-whole : (secret : List ℤ) (c d : Ciphertext) → c ≡ d → AreBelow 65536 (opened_reply secret (c ∷ [])) → AreBelow 65536 (decrypted secret d)
+at-whole secret c d e h = subst (λ (x : List ℕ). AreBelow 65536 x) (opened-single secret c ∙ ap (decrypted secret) e) h
+
+pub at-fault : (secret : List ℤ) (c : Ciphertext) (r : Result (List ℕ) ByteFault) → IfErr r (IsCause (opened_reply secret (c ∷ [])))
+    → IfErr r (λ fault. (d : Ciphertext) → c ≡ d → IsCause (decrypted secret d) fault)
+at-fault secret c (Ok bytes) h = tt
+at-fault secret c (Err fault) h = λ d e. subst (λ (x : List ℕ). IsCause x fault) (opened-single secret c ∙ ap (decrypted secret) e) h
+
+place-below : (n : ℕ) (secret : List ℤ) (c : Ciphertext) (fault : ByteFault) → ciphertext_degree c ≡ n → IsCause (opened_reply secret (c ∷ [])) fault → IsPlaceBelow n fault
+place-below n secret c (NotByte place) e h = omega (arith, h.within, ap length (opened-single secret c), length-decrypted secret c, e)
+place-below n secret c OutOfMemory e h = tt
+
+pub at-within : (n : ℕ) (secret : List ℤ) (c : Ciphertext) (r : Result (List ℕ) ByteFault) → ciphertext_degree c ≡ n → IfErr r (IsCause (opened_reply secret (c ∷ []))) → IfErr r (IsPlaceBelow n)
+at-within n secret c (Ok bytes) e h = tt
+at-within n secret c (Err fault) e h = place-below n secret c fault e h
+
+-- ---- parts
 
 pub part-at : (from count : ℕ) (cs : List Ciphertext) (k : ℕ) → k < count → ciphertext_at (part_of from count cs) k ≡ ciphertext_at cs (from + k)
 part-at from count cs k l = get_or-take count (drop from cs) k no_ciphertext l ∙ get_or-drop from cs k no_ciphertext

@@ -19,15 +19,12 @@ use Rattle.co_wire.specs.Lengths.{request_size}
 use Rattle.co_wire.specs.Public.{public_of}
 use Rattle.co_rounds.specs.Asked.{Asked, asked_draw, bodies_of, encryptions_draw, row_message, AreKeywordMessages}
 use Rattle.co_rounds.specs.Plans.{Seen, trace, targets, plan, plan_of, planned, FollowsPlan, IsWholePlan, made, Extends}
+use Rattle.co_client.specs.Telling.{Makes}
 use Rattle.co_client.specs.Published.{public_request}
 use Rattle.co_client.specs.Rounds.{Comes, ComesNone, keys_asked, keys_request, queries_request, queries_rest, record_messages, bin_messages}
 use Rattle.co_client.proofs.Sizes.{keys-size, queries-size}
 
 -- ---- exchanges behind those before a call
-
-abbrev pub Makes : Option (List Exchange) → Option (List Exchange) → List Exchange → Type 0
-Makes None now es = now ≡ None
-Makes (Some old) now es = now ≡ Some (old ++ es)
 
 pub makes-none : (was : Option (List Exchange)) → Makes was was []
 makes-none None = refl

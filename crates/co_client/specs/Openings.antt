@@ -1,11 +1,9 @@
 -- Replies that are checked whole, and then opened one ciphertext after another.
-use Rattle.std.specs.Prelude.{◌≡◌, ◌≢◌, ◌⊎◌, ◌+◌, ◌≤◌, ◌*◌, ℕ, ℤ, min, List, length, take, drop}
+use Rattle.std.specs.Prelude.{◌≡◌, ◌≢◌, ◌⊎◌, ◌<◌, ℕ, min, List, length, take, drop}
 use Rattle.co_link.specs.declared.messages.Target.{Target}
-use Rattle.co_slots.specs.Payloads.{IsPayload}
-use Rattle.co_slots.specs.Faults.{IsCause}
 use Rattle.co_slots.specs.declared.payloads.ByteFault.{ByteFault}
+use Rattle.co_slots.specs.declared.payloads.ByteFault.TheVariants as faults
 use Rattle.co_bfv.specs.Ciphertexts.{Ciphertext}
-use Rattle.co_pir.specs.Openings.{opened_reply}
 use Rattle.co_wire.specs.Bodies.{SpellsCiphers, IsFirstOutOfRange}
 use Rattle.co_client.specs.declared.fault.SearchFault.{SearchFault}
 use Rattle.co_client.specs.declared.fault.SearchFault.TheVariants.{TooManyKeywords, BadPublic, Test, NoPlacement, Link, Refused, BadReply, WrongRecord, BadPlace, NotByte, BadRecord, OutOfMemory}
@@ -38,3 +36,8 @@ pub record AreSpelled (n count : ℕ) (body : List ℕ) : Type 0 where
 -- the part of a list of so many from a place on
 abbrev pub part_of : ℕ → ℕ → List Ciphertext → List Ciphertext
 part_of from count cs = take count (drop from cs)
+
+-- the place of a fault is below this
+abbrev pub IsPlaceBelow : ℕ → ByteFault → Type 0
+IsPlaceBelow n (faults.NotByte place) = place < n
+IsPlaceBelow n faults.OutOfMemory = Unit {0}

@@ -8,6 +8,7 @@ use Rattle.co_link.specs.declared.messages.Reply.{Reply}
 use Rattle.co_link.specs.declared.messages.Exchange.{Exchange}
 use Rattle.rand_core.specs.Stream.{Stream}
 use Rattle.co_link.specs.declared.messages.Target.TheVariants.{Keys as ForKeys, Score, Meta, Document}
+use Rattle.co_math.specs.Coefficients.{AreBelow}
 use Rattle.co_noise.specs.Shapes.{Numbers, levels, document_blocks}
 use Rattle.co_bfv.specs.Ciphertexts.{Ciphertext}
 use Rattle.co_bfv.specs.Draws.{secret_draw}
@@ -47,6 +48,7 @@ pub record RefusesStatus (was now : Option (List Exchange)) (r : Request) (targe
   pub target_is : target ≡ r.target
   pub bad : status ≢ 200
   pub body : List ℕ
+  pub bytes : AreBelow 256 body
   pub comes : Comes was now r (reply_with status body)
 
 -- the reply was refused for its body, which is to have so many bytes
@@ -60,6 +62,21 @@ pub record RefusesBody (size : ℕ) (was now : Option (List Exchange)) (r : Requ
 pub record ComesSomehow (was now : Option (List Exchange)) (r : Request) : Type 0 where
   pub reply : Reply
   pub comes : Comes was now r reply
+
+-- what an exchange tells where it gives no body
+abbrev pub AskFails : Option (List Exchange) → Option (List Exchange) → Request → SearchFault → Type 0
+AskFails was now r (Refused target status) = RefusesStatus was now r target status
+AskFails was now r Link = ComesNone was now
+AskFails was now r OutOfMemory = ComesNone was now
+AskFails was now r (BadReply target place) = ⊥
+AskFails was now r (TooManyKeywords found) = ⊥
+AskFails was now r (BadPublic place) = ⊥
+AskFails was now r (Test fault) = ⊥
+AskFails was now r (NoPlacement documents buckets) = ⊥
+AskFails was now r (WrongRecord wanted found) = ⊥
+AskFails was now r (BadPlace document) = ⊥
+AskFails was now r (NotByte target reply place) = ⊥
+AskFails was now r (BadRecord document place) = ⊥
 
 -- what a round tells where it gives nothing: want of memory before the exchange or after it, a failed link, or the
 -- reply that is refused

@@ -37,12 +37,13 @@ fn bin_query<R: Rng>(
     ensures body { IfOk result (λ body. body ≡ ciphers_bytes (encryptions_draw reader.now.secret (bin_messages reader.now.shape bin) (R.stream rng.old)).0) }
     ensures rest { OnOk result (R.stream rng.new ≡ queries_rest reader.now.secret (bin_messages reader.now.shape bin) (R.stream rng.old)) }
 {
+    let secret = reader.secret();
     let shape = reader.tested().shape();
     let degree = Degree::of(shape.degree() as usize);
     let room = request_length(reader.tested(), Target::Document);
     let mut body = Vec::with_capacity(alloc, room as usize)?;
     let message = query_message(alloc, degree, shape.bins(), bin)?;
-    put_query(alloc, reader.secret(), &message, rng, &mut body)?;
+    put_query(alloc, secret, &message, rng, &mut body)?;
     Ok(Bytes::from_vec(body))
 }
 
@@ -108,7 +109,11 @@ fn read_text(
     let shape = reader.tested().shape();
     let degree = Degree::of(shape.degree() as usize);
     let secret = reader.secret();
-    let bin = open_part(alloc, secret, degree, body, shape.chunks(), Target::Document, 0)?;
+    let chunks = shape.chunks();
+    let bin = match open_part(alloc, secret, degree, body, chunks, Target::Document, 0) {
+        Ok(bin) => bin,
+        Err(fault) => return Err(fault),
+    };
     let start = place.offset as usize;
     let text = &bin.as_slice()[start..start + place.length as usize];
     match Bytes::copy_of(alloc, text) {
@@ -131,10 +136,10 @@ pub fn read_document(
         → IsReadAs result (picked_read reader.now.secret cs (option_map (λ r. r.now) picked.entry)) }
 {
     match picked {
-        Some(record) => {
-            let text = read_text(alloc, reader, body, record.place)?;
-            Ok(Some((record.document, text)))
-        }
+        Some(record) => match read_text(alloc, reader, body, record.place) {
+            Ok(text) => Ok(Some((record.document, text))),
+            Err(fault) => Err(fault),
+        },
         None => Ok(None),
     }
 }

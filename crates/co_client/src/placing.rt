@@ -64,6 +64,14 @@ fn choices(alloc: Global, shape: &Shape, hits: &[Ranked]) -> Result<Vec<[u32; 3]
     Ok(choices)
 }
 
+/// The document of the hit of a rank.
+fn document_of(hits: &[Ranked], rank: u32) -> u32
+    requires { rank < length hits.now }
+    ensures { result ≡ document_at hits.now rank }
+{
+    hits[rank as usize].document
+}
+
 /// The documents of the hits of these ranks, ascending.
 fn documents_of(alloc: Global, hits: &[Ranked], ranks: &[u32]) -> Result<Numbers, AllocError>
     requires { All (λ r. r < length hits.now) ranks.now }
@@ -71,7 +79,7 @@ fn documents_of(alloc: Global, hits: &[Ranked], ranks: &[u32]) -> Result<Numbers
 {
     let mut ascending = BTreeSet::new(alloc);
     for rank in ranks {
-        ascending.insert(hits[*rank as usize].document)?;
+        ascending.insert(document_of(hits, *rank))?;
     }
     let mut documents = Numbers::with_capacity(alloc, ascending.len())?;
     for document in ascending.iter() {
@@ -98,18 +106,17 @@ pub fn place_hits(alloc: Global, shape: &Shape, hits: &[Ranked]) -> Result<Placi
 }
 
 /// The place of a document in a list, 0 where it isn't there.
-fn place_in(list: &[u32], document: u32) -> u32
-    ensures value { result ≡ unwrap_or (position (λ d. d == document) list.now) 0 }
+fn place_in(list: &[u32], document: u32) -> usize
+    ensures { result ≡ unwrap_or (position (λ d. d == document) list.now) 0 }
 {
-    match list.iter().position(|listed| *listed == document) {
-        Some(place) => place as u32,
-        None => 0,
-    }
+    list.iter()
+        .position(|listed| *listed == document)
+        .unwrap_or(0)
 }
 
 /// The place in a bucket's list of the record that is asked: that of the hit of a rank, else the
 /// first.
-fn place_of(shape: &Shape, lists: &Lists, hits: &[Ranked], rank: Option<u32>, bucket: u32) -> u32
+fn place_of(shape: &Shape, lists: &Lists, hits: &[Ranked], rank: Option<u32>, bucket: u32) -> usize
     requires lists { lists.now ≡ lists_of shape.now.salt (bucket_count shape.now.hits) shape.now.documents }
     requires rank { IfSome rank (λ r. r < length hits.now) }
     requires bucket { bucket < bucket_count shape.now.hits }
@@ -119,7 +126,7 @@ fn place_of(shape: &Shape, lists: &Lists, hits: &[Ranked], rank: Option<u32>, bu
 {
     let _ = shape.degree();
     match rank {
-        Some(rank) => place_in(lists.list(bucket), hits[rank as usize].document),
+        Some(rank) => place_in(lists.list(bucket), document_of(hits, rank)),
         None => 0,
     }
 }
@@ -140,7 +147,7 @@ pub fn places(
     shape: &Shape,
     hits: &[Ranked],
     placed: &[Option<u32>],
-) -> Result<Vec<u32>, AllocError>
+) -> Result<Vec<usize>, AllocError>
     requires rows { shape.now.rows ≡ rows_of shape.now.degree shape.now.documents shape.now.hits shape.now.salt }
     requires ranks { (b r : ℕ) → slice_index_or placed.now b None ≡ Some r → r < length hits.now }
     ensures value { IfOk result (λ places. places.items ≡ places_asked shape.now hits.now placed.now) }

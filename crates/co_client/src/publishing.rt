@@ -11,7 +11,7 @@ ghost use Rattle.co_wire.specs.Lengths.{most_public};
 ghost use Rattle.co_client.specs.Rounds.{LinkFails};
 ghost use Rattle.co_client.specs.Published.{Consults, PublicFails};
 
-use crate::asking::ask;
+use crate::asking::{are_bytes, ask};
 use crate::fault::SearchFault;
 use co_link::{Bytes, Link, Target};
 use co_list::Listed;
@@ -73,6 +73,7 @@ pub(crate) fn consult<K: Link>(
         Ok(body) => body,
         Err(fault) => return Err(fault),
     };
+    are_bytes(body.as_slice());
     let (shape, vocabulary) = match read_public(alloc, body.as_slice()) {
         Ok(public) => public,
         Err(WireFault::Public { place }) => return Err(SearchFault::BadPublic { place }),

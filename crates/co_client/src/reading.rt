@@ -10,7 +10,7 @@ ghost use Rattle.co_bfv.specs.Encryptions.{decrypted};
 ghost use Rattle.co_pir.specs.Openings.{opened_reply, IsCauseFrom};
 ghost use Rattle.co_wire.specs.Bodies.{SpellsCiphers};
 ghost use Rattle.co_wire.specs.Lengths.{cipher_size};
-ghost use Rattle.co_client.specs.Openings.{AreSpelled, IsRefusedBody, part_of};
+ghost use Rattle.co_client.specs.Openings.{AreSpelled, IsRefusedBody, IsPlaceBelow, part_of};
 ghost use Rattle.co_client.specs.Records.{opened_bytes};
 ghost use Rattle.co_client.specs.Faults.{IsReadAs};
 
@@ -48,12 +48,13 @@ pub(crate) fn check_reply(
     ensures spelled { OnOk result (AreSpelled degree count body.now) }
     ensures refused { IfErr result (IsRefusedBody (count * cipher_size degree) target body.now) }
 {
-    let size = CIPHER_BYTES * degree.get() as usize;
-    let wanted = count as usize * size;
-    if body.len() != wanted {
+    let n = degree.get() as usize;
+    let found = body.len();
+    let wanted = count as usize * (CIPHER_BYTES * n);
+    if found != wanted {
         return Err(SearchFault::BadReply {
             target,
-            place: body.len().min(wanted) as u64,
+            place: found.min(wanted) as u64,
         });
     }
     for at in 0..count as usize {
@@ -62,7 +63,7 @@ pub(crate) fn check_reply(
             Err(WireFault::Range { place }) => {
                 return Err(SearchFault::BadReply {
                     target,
-                    place: (at * size) as u64 + place,
+                    place: (at * (CIPHER_BYTES * n)) as u64 + place,
                 });
             }
             Err(WireFault::Length { .. } | WireFault::Public { .. } | WireFault::OutOfMemory) => {
@@ -84,10 +85,34 @@ pub(crate) fn cipher_at(
     ensures value { IfOk result (λ c. (cs : List Ciphertext) (count : ℕ) → SpellsCiphers degree count cs body.now → c ≡ ciphertext_at cs at) }
     ensures degree { IfOk result (λ c. ciphertext_degree c ≡ degree) }
 {
+    let _n = degree.get();
     let Ok(mut ciphers) = read_ciphers(alloc, degree, 1, piece_at(degree, body, at)) else {
         return Err(AllocError);
     };
     Ok(ciphers.remove(0))
+}
+
+/// The bytes that the ciphertext at a place opens to.
+fn open_at(
+    alloc: Global,
+    secret: &Secret,
+    degree: Degree,
+    body: &[u8],
+    at: usize,
+) -> Result<Bytes, ByteFault>
+    requires one_degree { length secret.now ≡ degree }
+    requires whole { (at + 1) * cipher_size degree ≤ length body.now }
+    ensures bytes { IfOk result (λ bytes. (cs : List Ciphertext) (count : ℕ) → SpellsCiphers degree count cs body.now → IsPayload bytes (decrypted secret.now (ciphertext_at cs at))) }
+    ensures whole { OnOk result ((cs : List Ciphertext) (count : ℕ) → SpellsCiphers degree count cs body.now → AreBelow 65536 (decrypted secret.now (ciphertext_at cs at))) }
+    ensures fault { IfErr result (λ fault. (cs : List Ciphertext) (count : ℕ) → SpellsCiphers degree count cs body.now → IsCause (decrypted secret.now (ciphertext_at cs at)) fault) }
+    ensures within { IfErr result (IsPlaceBelow degree) }
+{
+    let n = degree.get();
+    let Ok(cipher) = cipher_at(alloc, degree, body, at) else {
+        return Err(ByteFault::OutOfMemory);
+    };
+    let one = [cipher];
+    open_reply(alloc, secret, &one)
 }
 
 /// Adds the bytes of the ciphertext at a place, the chunk of this number. The place of a fault counts
@@ -110,16 +135,14 @@ fn open_one(
     ensures fault { IfErr result (λ fault. (cs : List Ciphertext) (count : ℕ) → SpellsCiphers degree count cs body.now
         → IsCauseFrom (chunk * degree) (decrypted secret.now (ciphertext_at cs at)) fault) }
 {
-    let Ok(cipher) = cipher_at(alloc, degree, body, at) else {
-        return Err(ByteFault::OutOfMemory);
-    };
-    match open_reply(alloc, secret, &[cipher]) {
+    let n = degree.get() as usize;
+    match open_at(alloc, secret, degree, body, at) {
         Ok(piece) => match bytes.append(piece.as_slice()) {
             Ok(()) => Ok(()),
             Err(_) => Err(ByteFault::OutOfMemory),
         },
         Err(ByteFault::NotByte { place }) => Err(ByteFault::NotByte {
-            place: (chunk * degree.get() as usize) as u32 + place,
+            place: (chunk * n) as u32 + place,
         }),
         Err(ByteFault::OutOfMemory) => Err(ByteFault::OutOfMemory),
     }
@@ -141,8 +164,8 @@ fn open_from(
     ensures whole { OnOk result ((cs : List Ciphertext) (all : ℕ) → SpellsCiphers degree all cs body.now → AreBelow 65536 (opened_reply secret.now (part_of from count cs))) }
     ensures fault { IfErr result (λ fault. (cs : List Ciphertext) (all : ℕ) → SpellsCiphers degree all cs body.now → IsCause (opened_reply secret.now (part_of from count cs)) fault) }
 {
-    let room = 2 * degree.get() as usize * count;
-    let Ok(mut bytes) = Bytes::with_capacity(alloc, room) else {
+    let n = degree.get() as usize;
+    let Ok(mut bytes) = Bytes::with_capacity(alloc, 2 * n * count) else {
         return Err(ByteFault::OutOfMemory);
     };
     for chunk in 0..count {

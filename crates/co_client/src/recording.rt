@@ -53,7 +53,7 @@ fn records_a_row(degree: u32) -> u32
 fn record_queries<R: Rng>(
     alloc: Global,
     reader: &Reader,
-    places: &[u32],
+    places: &[usize],
     rng: &mut R,
 ) -> Result<Bytes, AllocError>
     requires { All (λ p. record_row reader.now.shape.degree p < reader.now.shape.rows) places.now }
@@ -62,14 +62,17 @@ fn record_queries<R: Rng>(
     ensures rest { OnOk result (R.stream rng.new ≡ queries_rest reader.now.secret
         (record_messages reader.now.shape (map (record_row reader.now.shape.degree) places.now)) (R.stream rng.old)) }
 {
+    let secret = reader.secret();
     let shape = reader.tested().shape();
-    let degree = Degree::of(shape.degree() as usize);
+    let size = shape.degree();
+    let degree = Degree::of(size as usize);
+    let rows = shape.rows();
     let room = request_length(reader.tested(), Target::Meta);
     let mut body = Vec::with_capacity(alloc, room as usize)?;
     for place in places {
-        let row = *place / records_a_row(shape.degree());
-        let message = query_message(alloc, degree, shape.rows(), row)?;
-        put_query(alloc, reader.secret(), &message, rng, &mut body)?;
+        let row = *place / records_a_row(size) as usize;
+        let message = query_message(alloc, degree, rows, row as u32)?;
+        put_query(alloc, secret, &message, rng, &mut body)?;
     }
     Ok(Bytes::from_vec(body))
 }
@@ -81,7 +84,7 @@ pub fn gather<K: Link, R: Rng>(
     link: &mut K,
     rng: &mut R,
     reader: &Reader,
-    places: &[u32],
+    places: &[usize],
 ) -> Result<Bytes, SearchFault>
     requires ready { K.is_ready link.old ≡ true }
     requires rows { All (λ p. record_row reader.now.shape.degree p < reader.now.shape.rows) places.now }
@@ -159,7 +162,7 @@ fn read_one(
     reader: &Reader,
     body: &[u8],
     bucket: u32,
-    place: u32,
+    place: usize,
     document: u32,
 ) -> Result<Record, SearchFault>
     requires whole { length body.now ≡ reply_size reader.now.shape targets.Meta }
@@ -172,8 +175,12 @@ fn read_one(
     let size = shape.degree();
     let degree = Degree::of(size as usize);
     let count = record_chunks(size);
-    let row = open_part(alloc, reader.secret(), degree, body, count, Target::Meta, bucket)?;
-    let start = RECORD_BYTES * (place % records_a_row(size)) as usize;
+    let secret = reader.secret();
+    let row = match open_part(alloc, secret, degree, body, count, Target::Meta, bucket) {
+        Ok(row) => row,
+        Err(fault) => return Err(fault),
+    };
+    let start = RECORD_BYTES * (place % records_a_row(size) as usize);
     check_record(alloc, shape, document, &row.as_slice()[start..start + RECORD_BYTES])
 }
 
@@ -188,13 +195,13 @@ fn is_placed_here(item: &Option<u32>, rank: u32) -> bool
 }
 
 /// The bucket in which the hit of a rank is placed.
-fn bucket_of(placed: &[Option<u32>], rank: u32) -> u32
+fn bucket_of(placed: &[Option<u32>], rank: u32) -> usize
     ensures { result ≡ readings.bucket_of placed.now rank }
 {
-    match placed.iter().position(|item| is_placed_here(item, rank)) {
-        Some(bucket) => bucket as u32,
-        None => 0,
-    }
+    placed
+        .iter()
+        .position(|item| is_placed_here(item, rank))
+        .unwrap_or(0)
 }
 
 /// The records of hits by rank, from the replies of the buckets in which they are placed.
@@ -204,7 +211,7 @@ pub fn read_records(
     body: &[u8],
     hits: &[Ranked],
     placed: &[Option<u32>],
-    places: &[u32],
+    places: &[usize],
 ) -> Result<Listed<Record>, SearchFault>
     requires whole { length body.now ≡ reply_size reader.now.shape targets.Meta }
     requires placed { HaveBuckets reader.now.shape hits.now placed.now }
@@ -218,8 +225,12 @@ pub fn read_records(
     };
     for rank in 0..hits.len() {
         let bucket = bucket_of(placed, rank as u32);
-        let place = places[bucket as usize];
-        let record = read_one(alloc, reader, body, bucket, place, hits[rank].document)?;
+        let place = places[bucket];
+        let document = hits[rank].document;
+        let record = match read_one(alloc, reader, body, bucket as u32, place, document) {
+            Ok(record) => record,
+            Err(fault) => return Err(fault),
+        };
         let Ok(()) = records.push(record) else {
             return Err(SearchFault::OutOfMemory);
         };

@@ -1,15 +1,18 @@
 //! The round of the scores.
 
-ghost use Rattle.std.specs.Prelude.{◌≡◌, ◌+◌, ◌-◌, ◌*◌, ◌^◌, ◌<◌, ◌≤◌, ◌++◌, true, ℕ, List, length, map, take, slice_index, max, min, All, IfOk, IfErr, OnOk};
+ghost use Rattle.std.specs.Prelude.{◌≡◌, ◌+◌, ◌-◌, ◌*◌, ◌==◌, ◌^◌, ◌<◌, ◌≤◌, ◌++◌, true, ℕ, List, length, map, take, slice_index, max, min, All, IfOk, IfErr, OnOk};
+ghost use Rattle.std.specs.List.{list_any};
 ghost use Rattle.co_link.specs.declared.messages.Target.TheVariants as targets;
 ghost use Rattle.co_math.specs.Parameters.{plain_modulus};
 ghost use Rattle.co_math.specs.Coefficients.{AreBelow};
 ghost use Rattle.co_noise.specs.Shapes.{document_blocks};
-ghost use Rattle.co_slots.specs.Slots.{slot, AreSlots};
+ghost use Rattle.co_slots.specs.Slots.{slot};
 ghost use Rattle.co_bfv.specs.Ciphertexts.{Ciphertext};
 ghost use Rattle.co_bfv.specs.Encryptions.{decrypted};
 ghost use Rattle.co_bfv.specs.Totals.{ciphertext_at};
+ghost use Rattle.co_ring.specs.Polynomials.{degree_of};
 ghost use Rattle.co_matvec.specs.Weights.{keyword_slot};
+ghost use Rattle.co_matvec.specs.Replies.{HasSlots};
 ghost use Rattle.co_wire.specs.Bodies.{SpellsCiphers, ciphers_bytes};
 ghost use Rattle.co_wire.specs.Lengths.{cipher_size, reply_size, reply_limit};
 ghost use Rattle.co_rounds.specs.Asked.{AreKeywordMessages, encryptions_draw};
@@ -34,6 +37,13 @@ use std::alloc::{AllocError, Global};
 /// The least that a reply may have, so that the text of a refusal is read.
 pub(crate) const LEAST_LIMIT: u64 = 256;
 
+/// Whether a term is a keyword.
+fn is_keyword(keywords: &[u32], term: usize) -> bool
+    ensures { result ≡ list_any (λ y. y == term) keywords.now }
+{
+    keywords.iter().any(|keyword| *keyword as usize == term)
+}
+
 /// A slot of the keyword polynomial of a block of terms: 1 where the term of its column is a keyword.
 #[tactic(auto, unfolding(co_matvec::specs::Weights::keyword_slot))]
 fn slot_at(keywords: &[u32], degree: usize, block: usize, p: usize) -> u64
@@ -43,12 +53,7 @@ fn slot_at(keywords: &[u32], degree: usize, block: usize, p: usize) -> u64
     ensures small { result < plain_modulus }
 {
     let half = degree / 2;
-    let term = block * half + p % half;
-    if keywords.iter().any(|keyword| *keyword as usize == term) {
-        1
-    } else {
-        0
-    }
+    u64::from(is_keyword(keywords, block * half + p % half))
 }
 
 /// The slots of the keyword polynomial of a block of terms.
@@ -63,6 +68,32 @@ fn fill_slots(keywords: &[u32], block: usize, slots: &mut [u64])
     }
 }
 
+/// Writes the keyword polynomial of a block of terms. Slots and spectrum are scratch.
+fn write_keywords(
+    table: &SlotTable,
+    keywords: &[u32],
+    block: usize,
+    slots: &mut [u64],
+    scratch: &mut Spectrum,
+    message: &mut Poly,
+)
+    requires degree { (2 ≤ table.now) × (table.now ≤ 4096) }
+    requires block { block ≤ 16384 }
+    requires slots_degree { length slots.old ≡ table.now }
+    requires scratch_modulus { scratch.old.modulus ≡ Modulus.Plain }
+    requires scratch_degree { length scratch.old.values ≡ table.now }
+    requires message_modulus { message.old.modulus ≡ Modulus.Plain }
+    requires message_degree { degree_of message.old ≡ table.now }
+    ensures modulus { message.new.modulus ≡ Modulus.Plain }
+    ensures spelled { HasSlots table.now (keyword_slot table.now keywords.now block) message.new.coeffs }
+    ensures scratch_modulus { scratch.new.modulus ≡ Modulus.Plain }
+    ensures scratch_degree { length scratch.new.values ≡ table.now }
+{
+    fill_slots(keywords, block, slots);
+    table.encode(slots, scratch, message);
+    let _ = message.degree();
+}
+
 /// The body of a request for scores: a query for each block of terms.
 fn score_queries<R: Rng>(
     alloc: Global,
@@ -75,18 +106,21 @@ fn score_queries<R: Rng>(
     ensures rest { OnOk result ((messages : List (List ℕ)) → AreKeywordMessages reader.now.shape keywords.now messages
         → R.stream rng.new ≡ queries_rest reader.now.secret messages (R.stream rng.old)) }
 {
+    let secret = reader.secret();
     let shape = reader.tested().shape();
-    let degree = Degree::of(shape.degree() as usize);
+    let size = shape.degree() as usize;
+    let degree = Degree::of(size);
     let table = SlotTable::new(alloc, degree)?;
     let mut scratch = Spectrum::zero(alloc, Modulus::Plain, degree)?;
     let mut message = Poly::zero(alloc, Modulus::Plain, degree)?;
-    let mut slots = vec![in alloc; 0u64; degree.get() as usize]?;
-    let room = request_length(reader.tested(), Target::Score);
-    let mut body = Vec::with_capacity(alloc, room as usize)?;
+    let mut room = vec![in alloc; 0u64; size]?;
+    let slots = room.as_mut_slice();
+    let long = request_length(reader.tested(), Target::Score);
+    let mut body = Vec::with_capacity(alloc, long as usize)?;
     for block in 0..shape.keyword_blocks() {
-        fill_slots(keywords, block as usize, &mut slots);
-        table.encode(&slots, &mut scratch, &mut message);
-        put_query(alloc, reader.secret(), &message, rng, &mut body)?;
+        let block = block as usize;
+        write_keywords(&table, keywords, block, slots, &mut scratch, &mut message);
+        put_query(alloc, secret, &message, rng, &mut body)?;
     }
     Ok(Bytes::from_vec(body))
 }
@@ -103,6 +137,35 @@ fn add_scores(slots: &[u64], documents: usize, scores: &mut Vec<u32>) -> Result<
     Ok(())
 }
 
+/// The slots of the reply of a block. The spectrum is scratch.
+fn read_slots(
+    alloc: Global,
+    reader: &Reader,
+    table: &SlotTable,
+    body: &[u8],
+    block: usize,
+    scratch: &mut Spectrum,
+    slots: &mut [u64],
+) -> Result<(), AllocError>
+    requires table { table.now ≡ reader.now.shape.degree }
+    requires whole { (block + 1) * cipher_size reader.now.shape.degree ≤ length body.now }
+    requires slots_degree { length slots.old ≡ table.now }
+    requires scratch_modulus { scratch.old.modulus ≡ Modulus.Plain }
+    requires scratch_degree { length scratch.old.values ≡ table.now }
+    ensures slots { OnOk result ((cs : List Ciphertext) (count : ℕ) → SpellsCiphers reader.now.shape.degree count cs body.now
+        → (p : ℕ) → p < table.now → slice_index slots.new p ≡ slot (decrypted reader.now.secret (ciphertext_at cs block)) p) }
+    ensures small { OnOk result (AreBelow plain_modulus slots.new) }
+    ensures scratch_modulus { OnOk result (scratch.new.modulus ≡ Modulus.Plain) }
+    ensures scratch_degree { OnOk result (length scratch.new.values ≡ table.now) }
+{
+    let secret = reader.secret();
+    let degree = Degree::of(secret.degree());
+    let cipher = cipher_at(alloc, degree, body, block)?;
+    let message = decrypt(alloc, secret, &cipher)?;
+    table.decode(&message, scratch, slots);
+    Ok(())
+}
+
 /// The scores of all documents, which the replies show.
 fn read_scores(alloc: Global, reader: &Reader, body: &[u8]) -> Result<Vec<u32>, AllocError>
     requires { length body.now ≡ reply_size reader.now.shape targets.Score }
@@ -110,17 +173,17 @@ fn read_scores(alloc: Global, reader: &Reader, body: &[u8]) -> Result<Vec<u32>, 
         → scores.items ≡ scores_read reader.now.shape reader.now.secret cs) }
 {
     let shape = reader.tested().shape();
-    let degree = Degree::of(shape.degree() as usize);
+    let size = shape.degree() as usize;
+    let degree = Degree::of(size);
     let documents = shape.documents() as usize;
     let table = SlotTable::new(alloc, degree)?;
     let mut scratch = Spectrum::zero(alloc, Modulus::Plain, degree)?;
-    let mut slots = vec![in alloc; 0u64; degree.get() as usize]?;
+    let mut room = vec![in alloc; 0u64; size]?;
+    let slots = room.as_mut_slice();
     let mut scores = Vec::with_capacity(alloc, documents)?;
     for block in 0..shape.document_blocks() {
-        let cipher = cipher_at(alloc, degree, body, block as usize)?;
-        let message = decrypt(alloc, reader.secret(), &cipher)?;
-        table.decode(&message, &mut scratch, &mut slots);
-        add_scores(&slots, documents, &mut scores)?;
+        read_slots(alloc, reader, &table, body, block as usize, &mut scratch, slots)?;
+        add_scores(slots, documents, &mut scores)?;
     }
     Ok(scores)
 }
@@ -152,8 +215,15 @@ pub fn rank<K: Link, R: Rng>(
         return Err(SearchFault::OutOfMemory);
     };
     let limit = reply_length(reader.tested(), Target::Score).max(LEAST_LIMIT);
-    let body = ask(link, Target::Score, queries, limit)?;
-    check_reply(alloc, degree, shape.document_blocks(), Target::Score, body.as_slice())?;
+    let body = match ask(link, Target::Score, queries, limit) {
+        Ok(body) => body,
+        Err(fault) => return Err(fault),
+    };
+    let blocks = shape.document_blocks();
+    match check_reply(alloc, degree, blocks, Target::Score, body.as_slice()) {
+        Ok(()) => {}
+        Err(fault) => return Err(fault),
+    }
     let Ok(scores) = read_scores(alloc, reader, body.as_slice()) else {
         return Err(SearchFault::OutOfMemory);
     };

@@ -5,16 +5,12 @@ ghost use Rattle.co_text.specs.Terms.{terms, distinct};
 ghost use Rattle.co_link.specs.declared.messages.Exchange.{Exchange};
 ghost use Rattle.co_noise.specs.Shapes.{Numbers};
 ghost use Rattle.co_noise.specs.Bounds.{test_of};
-ghost use Rattle.co_corpus.specs.declared.documents.Document.{Document};
-ghost use Rattle.co_library.specs.declared.settings.Settings.{Settings};
-ghost use Rattle.co_library.specs.Libraries.{Parts};
-ghost use Rattle.co_rounds.specs.Honest.{AreHonest};
 ghost use Rattle.co_rounds.specs.Plans.{made, Extends, FollowsPlan, IsWholePlan};
-ghost use Rattle.co_rounds.specs.Recording.{IsLibraryFor};
 ghost use Rattle.co_client.specs.Causes.{Search, Publishes, IsRead, IsCause, IsCauseUntold, IsAnswered, Asks};
-ghost use Rattle.co_client.specs.Plain.{AnswersPlainly};
+ghost use Rattle.co_client.specs.Going.{GoesOn};
+ghost use Rattle.co_client.specs.Telling.{Told};
 ghost use Rattle.co_client.specs.Faults.{IsManyTerms};
-ghost use Rattle.co_client.specs.Records.{hits_shown};
+ghost use Rattle.co_client.specs.Records.{hit_shown, hits_shown};
 
 use crate::fault::SearchFault;
 use crate::fetching::{bin_of, fetch, read_document};
@@ -24,7 +20,6 @@ use crate::recording::{gather, read_records};
 use crate::scoring::rank;
 use crate::starting::start;
 use co_link::Link;
-use co_list::Listed;
 use co_pack::Record;
 use co_text::{Found, Hit, Hits, QueryFault, Ranked, Terms, query_terms};
 use rand_core::Rng;
@@ -43,36 +38,31 @@ fn keywords_of(alloc: Global, query: &str) -> Result<Terms, SearchFault>
     }
 }
 
+/// A hit with the title of its record.
+fn with_title(ranked: &Ranked, read: &Record) -> Result<Hit, AllocError>
+    ensures { IfOk result (λ hit. hit ≡ hit_shown ranked.now read.now) }
+{
+    Ok(Hit {
+        document: ranked.document,
+        score: ranked.score,
+        title: read.title.copy()?,
+    })
+}
+
 /// Hits with the titles of their records.
-fn with_titles(
-    alloc: Global,
-    ranked: &[Ranked],
-    records: Listed<Record>,
-) -> Result<Hits, AllocError>
-    requires { length records ≡ length ranked.now }
-    ensures { IfOk result (λ hits. hits ≡ hits_shown ranked.now records) }
+fn with_titles(alloc: Global, ranked: &[Ranked], records: &[Record]) -> Result<Hits, AllocError>
+    requires { length records.now ≡ length ranked.now }
+    ensures { IfOk result (λ hits. hits ≡ hits_shown ranked.now records.now) }
 {
     let mut hits = Hits::with_capacity(alloc, ranked.len())?;
-    let mut at = 0;
-    for record in records.into_vec() {
-        hits.push(Hit {
-            document: ranked[at].document,
-            score: ranked[at].score,
-            title: record.title,
-        })?;
-        at += 1;
+    for at in 0..ranked.len() {
+        hits.push(with_title(&ranked[at], &records[at])?)?;
     }
     Ok(hits)
 }
 
-/// Searches a library over a link: the hits by score with their titles, the query's unknown terms,
-/// and the document of the pick-th hit.
-///
-/// The order of work: the keywords; the published parameters and their test; secret and keys are
-/// drawn; the exchanges for keys, scores, records and the document. Where the hits can't be placed,
-/// the last two rounds are made with rows and a bin that nobody needs, and then that is answered; so
-/// is the document's round where the pick is past the hits.
-pub fn search<K: Link, R: Rng>(
+/// The search, with all that it tells in one clause.
+fn conduct<K: Link, R: Rng>(
     alloc: Global,
     link: &mut K,
     rng: &mut R,
@@ -81,24 +71,8 @@ pub fn search<K: Link, R: Rng>(
 ) -> Result<Found, SearchFault>
     requires pick { (1 ≤ pick) × (pick ≤ 64) }
     requires ready { K.is_ready link.old ≡ true }
-    // Over exchanges that are honest to the library of a corpus: the plain answer exactly where its hits can be placed.
-    ensures plain { (es : List Exchange) → made (K.exchanges link.old) (K.exchanges link.new) ≡ Some es
-        → (documents : List Document) (settings : Settings) (l : Parts) (held : Option (List ℕ)) → IsLibraryFor documents settings l → AreHonest l held es
-        → AnswersPlainly documents settings l (terms query.now) pick result }
-    // Over any exchanges: number, order and lengths of the requests follow the published parameters.
-    ensures planned { (es : List Exchange) → made (K.exchanges link.old) (K.exchanges link.new) ≡ Some es → FollowsPlan es }
-    ensures whole { (es : List Exchange) → made (K.exchanges link.old) (K.exchanges link.new) ≡ Some es → IsAnswered result → IsWholePlan es }
-    // What is answered is read from the exchanges, and each refusal has its cause there.
-    ensures read { (es : List Exchange) → made (K.exchanges link.old) (K.exchanges link.new) ≡ Some es
-        → IfOk result (IsRead (record { query = terms query.now; pick = pick; stream = R.stream rng.old; before = K.faults link.old; now = K.faults link.new; last_failed = K.last_failed link.new }) es) }
-    ensures refused { (es : List Exchange) → made (K.exchanges link.old) (K.exchanges link.new) ≡ Some es
-        → IfErr result (IsCause (record { query = terms query.now; pick = pick; stream = R.stream rng.old; before = K.faults link.old; now = K.faults link.new; last_failed = K.last_failed link.new }) es) }
+    ensures told { Told (record { query = terms query.now; pick = pick; stream = R.stream rng.old; before = K.faults link.old; now = K.faults link.new; last_failed = K.last_failed link.new }) (K.exchanges link.old) (K.exchanges link.new) result (R.stream rng.new) }
     ensures untold { IfErr result (IsCauseUntold (record { query = terms query.now; pick = pick; stream = R.stream rng.old; before = K.faults link.old; now = K.faults link.new; last_failed = K.last_failed link.new })) }
-    // The requests are the drawn ones.
-    ensures asked { (es : List Exchange) → made (K.exchanges link.old) (K.exchanges link.new) ≡ Some es
-        → (s : Numbers) (ts : List (List ℕ)) → Publishes es s ts → test_of s ≡ Ok s
-        → Asks (record { query = terms query.now; pick = pick; stream = R.stream rng.old; before = K.faults link.old; now = K.faults link.new; last_failed = K.last_failed link.new }) es s ts result (R.stream rng.new) }
-    ensures extends { Extends (K.exchanges link.old) (K.exchanges link.new) }
     ensures faults { K.faults link.old ≤ K.faults link.new }
     ensures ready { K.is_ready link.new ≡ true }
     ensures beside { K.beside link.new ≡ K.beside link.old }
@@ -145,7 +119,7 @@ pub fn search<K: Link, R: Rng>(
         Ok(document) => document,
         Err(fault) => return Err(fault),
     };
-    let Ok(hits) = with_titles(alloc, shown, records) else {
+    let Ok(hits) = with_titles(alloc, shown, records.as_slice()) else {
         return Err(SearchFault::OutOfMemory);
     };
     match placing {
@@ -158,4 +132,43 @@ pub fn search<K: Link, R: Rng>(
             Err(SearchFault::NoPlacement { documents, buckets })
         }
     }
+}
+
+/// Searches a library over a link: the hits by score with their titles, the query's unknown terms,
+/// and the document of the pick-th hit.
+///
+/// The order of work: the keywords; the published parameters and their test; secret and keys are
+/// drawn; the exchanges for keys, scores, records and the document. Where the hits can't be placed,
+/// the last two rounds are made with rows and a bin that nobody needs, and then that is answered; so
+/// is the document's round where the pick is past the hits.
+pub fn search<K: Link, R: Rng>(
+    alloc: Global,
+    link: &mut K,
+    rng: &mut R,
+    query: &str,
+    pick: u32,
+) -> Result<Found, SearchFault>
+    requires pick { (1 ≤ pick) × (pick ≤ 64) }
+    requires ready { K.is_ready link.old ≡ true }
+    // Over any exchanges: number, order and lengths of the requests follow the published parameters.
+    ensures planned { (es : List Exchange) → made (K.exchanges link.old) (K.exchanges link.new) ≡ Some es → FollowsPlan es }
+    ensures whole { (es : List Exchange) → made (K.exchanges link.old) (K.exchanges link.new) ≡ Some es → IsAnswered result → IsWholePlan es }
+    // What is answered is read from the exchanges, and each refusal has its cause there.
+    ensures read { (es : List Exchange) → made (K.exchanges link.old) (K.exchanges link.new) ≡ Some es
+        → IfOk result (IsRead (record { query = terms query.now; pick = pick; stream = R.stream rng.old; before = K.faults link.old; now = K.faults link.new; last_failed = K.last_failed link.new }) es) }
+    ensures refused { (es : List Exchange) → made (K.exchanges link.old) (K.exchanges link.new) ≡ Some es
+        → IfErr result (IsCause (record { query = terms query.now; pick = pick; stream = R.stream rng.old; before = K.faults link.old; now = K.faults link.new; last_failed = K.last_failed link.new }) es) }
+    ensures untold { IfErr result (IsCauseUntold (record { query = terms query.now; pick = pick; stream = R.stream rng.old; before = K.faults link.old; now = K.faults link.new; last_failed = K.last_failed link.new })) }
+    // The requests are the drawn ones.
+    ensures asked { (es : List Exchange) → made (K.exchanges link.old) (K.exchanges link.new) ≡ Some es
+        → (s : Numbers) (ts : List (List ℕ)) → Publishes es s ts → test_of s ≡ Ok s
+        → Asks (record { query = terms query.now; pick = pick; stream = R.stream rng.old; before = K.faults link.old; now = K.faults link.new; last_failed = K.last_failed link.new }) es s ts result (R.stream rng.new) }
+    // When one round follows another.
+    ensures goes_on { (es : List Exchange) → made (K.exchanges link.old) (K.exchanges link.new) ≡ Some es → GoesOn (record { query = terms query.now; pick = pick; stream = R.stream rng.old; before = K.faults link.old; now = K.faults link.new; last_failed = K.last_failed link.new }) es }
+    ensures extends { Extends (K.exchanges link.old) (K.exchanges link.new) }
+    ensures faults { K.faults link.old ≤ K.faults link.new }
+    ensures ready { K.is_ready link.new ≡ true }
+    ensures beside { K.beside link.new ≡ K.beside link.old }
+{
+    conduct(alloc, link, rng, query, pick)
 }
