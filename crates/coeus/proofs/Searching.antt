@@ -27,6 +27,7 @@ use Rattle.co_rounds.specs.Plans.{made, FollowsPlan, IsWholePlan}
 use Rattle.co_rounds.specs.Placing.{choices_of, CanBePlaced, IsUnplaced}
 use Rattle.co_rounds.specs.Recording.{IsLibraryFor}
 use Rattle.co_client.specs.Causes.{Search, Publishes, IsRead, IsCause, IsAnswered, Asks}
+use Rattle.co_client.specs.Going.{GoesOn}
 use Rattle.co_client.specs.Plain.{AnswersPlainly, plain_hits}
 use Rattle.co_client.specs.declared.fault.SearchFault.{SearchFault}
 use Rattle.co_client.specs.declared.fault.SearchFault.TheVariants as searching
@@ -36,7 +37,7 @@ use Rattle.coeus.specs.declared.refusals.Refusal.TheVariants.{Library, LibraryTo
 use Rattle.coeus.specs.Words.{SpokenLocal, LocalWords, joined}
 use Rattle.coeus.specs.Outside.{Outside, FilesState, HasNoFault, Took, TookFront}
 use Rattle.coeus.specs.Refusals.{status_of, status_of_refused}
-use Rattle.coeus.specs.Locals.{HasLibraryFile, HasImport, OpenCause, IsSearched, Searched, LocalDue}
+use Rattle.coeus.specs.Locals.{HasLibraryFile, HasImport, CanBeServed, OpenCause, IsSearched, Searched, LocalAnswer, LocalDue}
 use Rattle.coeus.specs.Runs.{Answered, Interrupted, RefusedBy}
 use Rattle.coeus.proofs.Outcomes.{differ, same_value}
 
@@ -78,6 +79,7 @@ pub searched_over : (p : LocalWords) (library : Parts) (was is : Stream) (result
     → text ≡ joined p.query → before ≡ [] → AreHonest library None now
     → ((es : List Exchange) → made (Some before) (Some now) ≡ Some es → FollowsPlan es)
     → ((es : List Exchange) → made (Some before) (Some now) ≡ Some es → IsAnswered result → IsWholePlan es)
+    → ((es : List Exchange) → made (Some before) (Some now) ≡ Some es → GoesOn (for_text text p.pick was) es)
     → ((es : List Exchange) → made (Some before) (Some now) ≡ Some es → IfOk result (IsRead (for_text text p.pick was) es))
     → ((es : List Exchange) → made (Some before) (Some now) ≡ Some es → IfErr result (IsCause (for_text text p.pick was) es))
     → ((es : List Exchange) → made (Some before) (Some now) ≡ Some es → (s : Numbers) (ts : List (List ℕ)) → Publishes es s ts → test_of s ≡ Ok s
@@ -85,13 +87,14 @@ pub searched_over : (p : LocalWords) (library : Parts) (was is : Stream) (result
     → ((es : List Exchange) → made (Some before) (Some now) ≡ Some es → (documents : List Document) (settings : Settings) (l : Parts) (held : Option (List ℕ))
         → IsLibraryFor documents settings l → AreHonest l held es → AnswersPlainly documents settings l (terms text) p.pick result)
     → IsSearched p library was is result
-searched_over p library was is result text before now same new honest planned whole read refused asked plain =
+searched_over p library was is result text before now same new honest planned whole going read refused asked plain =
     let all : made (Some before) (Some now) ≡ Some now = ap (λ (es : List Exchange). made (Some es) (Some now)) new in
     record {
       exchanges = now;
       honest = honest;
       planned = planned now all;
       whole = whole now all;
+      going = subst (λ (t : List ℕ). GoesOn (for_text t p.pick was) now) same (going now all);
       read = subst (λ (t : List ℕ). IfOk result (IsRead (for_text t p.pick was) now)) same (read now all);
       refused = subst (λ (t : List ℕ). IfErr result (IsCause (for_text t p.pick was) now)) same (refused now all);
       asked = λ s ts publishes passes. subst (λ (t : List ℕ). Asks (for_text t p.pick was) now s ts result is) same (asked now all s ts publishes passes);
@@ -109,6 +112,11 @@ unsearched p library random = record {
   honest = tt;
   planned = refl;
   whole = λ answered. absurd answered;
+  going = record {
+    few = λ some. absurd (omega (arith, some));
+    tested = λ s ts publishes more. absurd (no_exchange publishes.first publishes.others publishes.are);
+    taken = λ number e is more. absurd (omega (arith, more));
+  };
   read = tt;
   refused = tt;
   asked = λ s ts publishes passes. absurd (no_exchange publishes.first publishes.others publishes.are);
@@ -116,15 +124,14 @@ unsearched p library random = record {
 }
 
 -- a search in the library of a file
-searched : (p : LocalWords) (held : Option Folder) (was is : Stream) (result : Result Found SearchFault) (library : Parts) → HasLibraryFile held p.library library
-    → test_of library.shape ≡ Ok library.shape → IsSearched p library was is result → Searched p held was is result
-searched p held was is result library file passes search = record {
+searched : (p : LocalWords) (held : Option Folder) (was is : Stream) (result : Result Found SearchFault) (library : Parts) → CanBeServed held p.library library
+    → IsSearched p library was is result → Searched p held was is result
+searched p held was is result library served search = record {
   library = library;
-  file = file;
-  passes = passes;
+  served = served;
   search = search;
   plain = λ documents settings other i.
-      let same : library ≡ other = same_library held p.library documents settings library other file i in
+      let same : library ≡ other = same_library held p.library documents settings library other served.file i in
       subst (λ (l : Parts). AnswersPlainly documents settings l (terms (joined p.query)) p.pick result) same
       (search.plain documents settings (subst (λ (l : Parts). IsLibraryFor documents settings l) (sym same) i.of_corpus));
 }
@@ -135,43 +142,33 @@ pub local_unopened : (p : LocalWords) (was is : Outside) (refusal : Refusal) →
     → is.out.bytes ≡ was.out.bytes → is.files.held ≡ was.files.held → RefusedBy (SpokenLocal p) was is refusal
 local_unopened p was is (Library place) cause out files = record { cause = cause; out = out; files = files; draws = tt }
 local_unopened p was is LibraryTooLong cause out files = record { cause = cause; out = out; files = files; draws = tt }
+local_unopened p was is (Test fault) cause out files = record { cause = cause; out = out; files = files; draws = tt }
 local_unopened p was is (File Read) cause out files = record { cause = cause; out = out; files = files; draws = tt }
 local_unopened p was is Memory cause out files = record { cause = cause; out = out; files = files; draws = tt }
 local_unopened p was is refusal cause out files = absurd cause
 
-pub local_without_room : (p : LocalWords) (was is : Outside) (library : Parts) (fault : TestFault) → HasLibraryFile was.files.held p.library library
-    → test_of library.shape ≡ Err fault → is.out.bytes ≡ was.out.bytes → is.files.held ≡ was.files.held → RefusedBy (SpokenLocal p) was is (Test fault)
-local_without_room p was is library fault file fails out files =
-    record { cause = record { library = library; file = file; fails = fails }; out = out; files = files; draws = tt }
+pub local_unsearched : (p : LocalWords) (was is : Outside) (library : Parts) (fault : SearchFault) → CanBeServed was.files.held p.library library
+    → IsSearched p library was.random is.random (Err fault) → is.out.bytes ≡ was.out.bytes → is.files.held ≡ was.files.held
+    → RefusedBy (SpokenLocal p) was is (Unsearched fault)
+local_unsearched p was is library fault served search out files =
+    record { cause = searched p was.files.held was.random is.random (Err fault) library served search; out = out; files = files; draws = tt }
 
-pub local_unsearched : (p : LocalWords) (was is : Outside) (library : Parts) (fault : SearchFault) → HasLibraryFile was.files.held p.library library
-    → test_of library.shape ≡ Ok library.shape → IsSearched p library was.random is.random (Err fault)
-    → is.out.bytes ≡ was.out.bytes → is.files.held ≡ was.files.held → RefusedBy (SpokenLocal p) was is (Unsearched fault)
-local_unsearched p was is library fault file passes search out files =
-    record { cause = searched p was.files.held was.random is.random (Err fault) library file passes search; out = out; files = files; draws = tt }
+local_prints : (p : LocalWords) (was is : Outside) (library : Parts) (found : Found) (text : List ℕ) → CanBeServed was.files.held p.library library
+    → IsSearched p library was.random is.random (Ok found) → text ≡ printed found → LocalAnswer p was.files.held was.random is.random text
+local_prints p was is library found text served search text_is =
+    record { found = found; searched = searched p was.files.held was.random is.random (Ok found) library served search; text_is = text_is }
 
-pub local_answered : (p : LocalWords) (was is : Outside) (library : Parts) (found : Found) (text : List ℕ) → HasLibraryFile was.files.held p.library library
-    → test_of library.shape ≡ Ok library.shape → IsSearched p library was.random is.random (Ok found) → text ≡ printed found
-    → Took was.out is.out text → is.files.held ≡ was.files.held → Answered (SpokenLocal p) was is
-local_answered p was is library found text file passes search text_is took files = record {
-  text = text;
-  prints = record { found = found; searched = searched p was.files.held was.random is.random (Ok found) library file passes search; text_is = text_is };
-  passes = tt;
-  took = took;
-  keeps = files;
-  draws = tt;
-}
+pub local_answered : (p : LocalWords) (was is : Outside) (library : Parts) (found : Found) (text : List ℕ) → CanBeServed was.files.held p.library library
+    → IsSearched p library was.random is.random (Ok found) → text ≡ printed found → Took was.out is.out text → is.files.held ≡ was.files.held
+    → Answered (SpokenLocal p) was is
+local_answered p was is library found text served search text_is took files =
+    record { text = text; prints = local_prints p was is library found text served search text_is; passes = tt; took = took; keeps = files; draws = tt }
 
-pub local_interrupted : (p : LocalWords) (was is : Outside) (library : Parts) (found : Found) (text : List ℕ) → HasLibraryFile was.files.held p.library library
-    → test_of library.shape ≡ Ok library.shape → IsSearched p library was.random is.random (Ok found) → text ≡ printed found
-    → TookFront was.out is.out text → is.files.held ≡ was.files.held → Interrupted (SpokenLocal p) was is
-local_interrupted p was is library found text file passes search text_is took files = record {
-  text = text;
-  prints = record { found = found; searched = searched p was.files.held was.random is.random (Ok found) library file passes search; text_is = text_is };
-  took = took;
-  keeps = files;
-  draws = tt;
-}
+pub local_interrupted : (p : LocalWords) (was is : Outside) (library : Parts) (found : Found) (text : List ℕ) → CanBeServed was.files.held p.library library
+    → IsSearched p library was.random is.random (Ok found) → text ≡ printed found → TookFront was.out is.out text → is.files.held ≡ was.files.held
+    → Interrupted (SpokenLocal p) was is
+local_interrupted p was is library found text served search text_is took files =
+    record { text = text; prints = local_prints p was is library found text served search text_is; took = took; keeps = files; draws = tt }
 
 -- ---- the status that is due
 
@@ -181,15 +178,19 @@ local_placed p was is a due d = d.placed (a.prints.searched.plain d.documents d.
 
 -- a file that is told and was written by `import` is read, but for faults and want of memory
 open_due : (name : List ℕ) (was is : FilesState) (documents : List Document) (settings : Settings) (library : Parts) (refusal : Refusal)
-    → HasImport was.held name documents settings library → (¬ Rose was.faults is.faults) → OpenCause name was is refusal → status_of refusal ≡ 10
-open_due name was is documents settings library (Library place) i kept cause =
+    → HasImport was.held name documents settings library → test_of library.shape ≡ Ok library.shape → (¬ Rose was.faults is.faults)
+    → OpenCause name was is refusal → status_of refusal ≡ 10
+open_due name was is documents settings library (Library place) i passes kept cause =
     absurd (differ library place (library_in cause.bytes) (imported was.held name cause.bytes documents settings library cause.file.stands i) cause.unread)
-open_due name was is documents settings library LibraryTooLong i kept cause =
+open_due name was is documents settings library LibraryTooLong i passes kept cause =
     let long : MAX_LIBRARY < length (library_bytes library) = subst (IsLonger MAX_LIBRARY) i.stands (cause (tells was.held name (library_bytes library) i.stands)) in
     absurd (omega (arith, long, file_few library i.of_corpus.built.good))
-open_due name was is documents settings library (File Read) i kept cause = absurd (kept cause.rose)
-open_due name was is documents settings library Memory i kept cause = refl
-open_due name was is documents settings library refusal i kept cause = absurd cause
+open_due name was is documents settings library (Test fault) i passes kept cause =
+    let same = same_library was.held name documents settings cause.library library cause.file i in
+    absurd (differ library.shape fault (test_of library.shape) passes (ap (λ (l : Parts). test_of l.shape) (sym same) ∙ cause.fails))
+open_due name was is documents settings library (File Read) i passes kept cause = absurd (kept cause.rose)
+open_due name was is documents settings library Memory i passes kept cause = refl
+open_due name was is documents settings library refusal i passes kept cause = absurd cause
 
 -- no placement where the hits can be placed
 misplaced : (s : Numbers) (documents buckets : List ℕ) (hits : List Ranked) → IsUnplaced s hits documents buckets → CanBePlaced s hits → ⊥
@@ -213,9 +214,6 @@ search_due p held random es fault due d plain cause = absurd plain
 pub local_due : (p : LocalWords) (was is : Outside) (refusal : Refusal) → HasNoFault was is → RefusedBy (SpokenLocal p) was is refusal
     → (due : ℕ) → LocalDue p was.files.held due → (status_of refusal ≡ due) ⊎ (status_of refusal ≡ 10)
 local_due p was is Output kept r due d = absurd (kept.out r.took.rose)
-local_due p was is (Test fault) kept r due d =
-    let same : r.cause.library ≡ d.library = same_library was.files.held p.library d.documents d.settings r.cause.library d.library r.cause.file d.file in
-    absurd (differ d.library.shape fault (test_of d.library.shape) d.passes (ap (λ (l : Parts). test_of l.shape) (sym same) ∙ r.cause.fails))
 local_due p was is (Unsearched fault) kept r due d =
     search_due p was.files.held was.random r.cause.search.exchanges fault due d (r.cause.plain d.documents d.settings d.library d.file) r.cause.search.refused
-local_due p was is refusal kept r due d = inr (open_due p.library was.files is.files d.documents d.settings d.library refusal d.file kept.files r.cause)
+local_due p was is refusal kept r due d = inr (open_due p.library was.files is.files d.documents d.settings d.library refusal d.file d.passes kept.files r.cause)

@@ -20,6 +20,7 @@ use Rattle.co_rounds.specs.Plans.{FollowsPlan, IsWholePlan}
 use Rattle.co_rounds.specs.Placing.{CanBePlaced}
 use Rattle.co_rounds.specs.Recording.{IsLibraryFor}
 use Rattle.co_client.specs.Causes.{Search, Publishes, IsRead, IsCause, IsAnswered, Asks}
+use Rattle.co_client.specs.Going.{GoesOn}
 use Rattle.co_client.specs.Plain.{AnswersPlainly, plain_hits}
 use Rattle.co_client.specs.declared.fault.SearchFault.{SearchFault}
 use Rattle.coeus.specs.declared.limits.TheConstants.{MAX_LIBRARY}
@@ -43,8 +44,20 @@ pub record HasWrongFile (held : Option Folder) (name : List ℕ) (place : ℕ) :
   pub file : HasFile MAX_LIBRARY held name bytes
   pub unread : library_in bytes ≡ Err place
 
--- why the library of a file isn't given; want of memory has no cause
+-- the file of a library that passes the test
+pub record CanBeServed (held : Option Folder) (name : List ℕ) (library : Parts) : Type 0 where
+  pub file : HasLibraryFile held name library
+  pub passes : test_of library.shape ≡ Ok library.shape
+
+-- the file of a library that fails the test
+pub record HasNoRoom (held : Option Folder) (name : List ℕ) (fault : TestFault) : Type 0 where
+  pub library : Parts
+  pub file : HasLibraryFile held name library
+  pub fails : test_of library.shape ≡ Err fault
+
+-- why the library of a file isn't read, or isn't served; want of memory has no cause
 abbrev pub OpenCause : List ℕ → FilesState → FilesState → Refusal → Type 0
+OpenCause name was is (refusals.Test fault) = HasNoRoom was.held name fault
 OpenCause name was is (refusals.Library place) = HasWrongFile was.held name place
 OpenCause name was is refusals.LibraryTooLong =
     IsSome was.held → IsLonger MAX_LIBRARY (file_at was.held name)
@@ -72,8 +85,9 @@ search_for p random = record {
 }
 
 -- a search over exchanges that are honest to a library has this result: number, order and lengths
--- of its requests are planned by the published numbers; what it answers is read from them; they are
--- the drawn ones, and after an answer or a refused placement the random words are left where these
+-- of its requests are planned by the published numbers, and one follows another only where few terms
+-- are asked, the numbers pass the test and the reply was taken; what it answers is read from them;
+-- they are the drawn ones, and after an answer or a refused placement the random words are left where these
 -- draws leave them. If the library is that of a corpus, the result is the plain answer, or that its
 -- hits can't be placed
 pub record IsSearched (p : LocalWords) (library : Parts) (was is : Stream)
@@ -82,6 +96,7 @@ pub record IsSearched (p : LocalWords) (library : Parts) (was is : Stream)
   pub honest : AreHonest library None exchanges
   pub planned : FollowsPlan exchanges
   pub whole : IsAnswered result → IsWholePlan exchanges
+  pub going : GoesOn (search_for p was) exchanges
   pub read : IfOk result (IsRead (search_for p was) exchanges)
   pub refused : IfErr result (IsCause (search_for p was) exchanges)
   pub asked : (shape : Numbers) (names : List (List ℕ)) → Publishes exchanges shape names
@@ -95,8 +110,7 @@ pub record IsSearched (p : LocalWords) (library : Parts) (was is : Stream)
 pub record Searched (p : LocalWords) (held : Option Folder) (was is : Stream)
     (result : Result Found SearchFault) : Type 0 where
   pub library : Parts
-  pub file : HasLibraryFile held p.library library
-  pub passes : test_of library.shape ≡ Ok library.shape
+  pub served : CanBeServed held p.library library
   pub search : IsSearched p library was is result
   pub plain : (documents : List Document) (settings : Settings) (imported : Parts)
       → HasImport held p.library documents settings imported
@@ -111,15 +125,8 @@ pub record LocalAnswer (p : LocalWords) (held : Option Folder) (was is : Stream)
   pub searched : Searched p held was is (Ok found)
   pub text_is : text ≡ printed found
 
--- the library of the file fails the test
-pub record HasNoRoom (name : List ℕ) (held : Option Folder) (fault : TestFault) : Type 0 where
-  pub library : Parts
-  pub file : HasLibraryFile held name library
-  pub fails : test_of library.shape ≡ Err fault
-
 -- when `local` refuses, but by the output
 abbrev pub LocalCause : LocalWords → Outside → Outside → Refusal → Type 0
-LocalCause p was is (refusals.Test fault) = HasNoRoom p.library was.files.held fault
 LocalCause p was is (refusals.Search fault) =
     Searched p was.files.held was.random is.random (Err fault)
 LocalCause p was is refusal = OpenCause p.library was.files is.files refusal
@@ -136,5 +143,5 @@ pub record LocalDue (p : LocalWords) (held : Option Folder) (status : ℕ) : Typ
   pub few : length (query_of p.query) ≤ MAX_KEYWORDS
   pub placed : CanBePlaced library.shape (plain_hits documents settings (terms (joined p.query)))
       → status ≡ 0
-  pub unplaced : ¬ CanBePlaced library.shape
-      (plain_hits documents settings (terms (joined p.query))) → status ≡ 6
+  pub unplaced : (¬ CanBePlaced library.shape
+      (plain_hits documents settings (terms (joined p.query)))) → status ≡ 6

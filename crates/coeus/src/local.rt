@@ -3,7 +3,7 @@ ghost use Rattle.std.specs.Prelude.{◌≡◌, ◌≤◌, IfOk, IfErr};
 ghost use Rattle.coeus.specs.Words.{SpokenLocal};
 ghost use Rattle.coeus.specs.Commands.{local_shown, IsWithinRanges};
 ghost use Rattle.coeus.specs.Outside.{files_state, outside_of};
-ghost use Rattle.coeus.specs.Locals.{HasLibraryFile, OpenCause, IsSearched};
+ghost use Rattle.coeus.specs.Locals.{HasLibraryFile, CanBeServed, OpenCause, IsSearched};
 ghost use Rattle.coeus.specs.Runs.{Ended};
 
 use crate::limits::MAX_LIBRARY;
@@ -13,11 +13,10 @@ use co_client::{SearchFault, search};
 use co_library::{Library, LibraryFault};
 use co_link::{FileFault, FileKind, Files, Sink};
 use co_noise::test;
-use co_server::{Loaded, LocalLink};
+use co_server::{Loaded, LocalLink, Runs};
 use co_text::{Found, render};
 use rand_core::Rng;
 use std::alloc::Global;
-use std::thread::Threads;
 
 /// The library of a file.
 fn read_library<F: Files>(alloc: Global, name: &str, files: &mut F) -> Result<Library, Refusal>
@@ -42,15 +41,36 @@ fn read_library<F: Files>(alloc: Global, name: &str, files: &mut F) -> Result<Li
     }
 }
 
+/// The library of a file, made ready for replies, where it passes the test.
+fn load<F: Files>(alloc: Global, name: &str, files: &mut F) -> Result<Loaded, Refusal>
+    ensures ok { IfOk result (CanBeServed (F.held files.old) name.now) }
+    ensures cause { let was = files_state
+        (F.held files.old) (F.faults files.old) (F.last_failed files.old) in
+        let is = files_state (F.held files.new) (F.faults files.new) (F.last_failed files.new) in
+        IfErr result (OpenCause name.now was is) }
+    ensures files { F.held files.new ≡ F.held files.old }
+    ensures later { F.faults files.old ≤ F.faults files.new }
+{
+    let library = read_library(alloc, name, files)?;
+    match test(library.shape()) {
+        Ok(tested) => match Loaded::new(alloc, library, tested) {
+            Ok(loaded) => Ok(loaded),
+            Err(_) => Err(Refusal::Memory),
+        },
+        Err(fault) => Err(Refusal::Test(fault)),
+    }
+}
+
 /// What a search finds over a link to a session of its own.
-fn ask<T: Threads + Sync, R: Rng>(
+fn ask<T: Runs, R: Rng>(
     rt: &T,
     alloc: Global,
     loaded: &Loaded,
     command: &LocalCommand<'_>,
     rng: &mut R,
 ) -> Result<Found, SearchFault>
-    requires { IsWithinRanges command.now }
+    requires shared { T.is_shared }
+    requires ranges { IsWithinRanges command.now }
     ensures { IsSearched (local_shown command.now) loaded.now
         (R.stream rng.old) (R.stream rng.new) result }
 {
@@ -62,7 +82,7 @@ fn ask<T: Threads + Sync, R: Rng>(
 }
 
 /// Searches a library, and puts the answer on the output.
-pub fn local<T: Threads + Sync, F: Files, R: Rng, O: Sink>(
+pub fn local<T: Runs, F: Files, R: Rng, O: Sink>(
     rt: &T,
     alloc: Global,
     command: &LocalCommand<'_>,
@@ -70,21 +90,15 @@ pub fn local<T: Threads + Sync, F: Files, R: Rng, O: Sink>(
     rng: &mut R,
     out: &mut O,
 ) -> Result<(), Refusal>
-    requires { IsWithinRanges command.now }
+    requires shared { T.is_shared }
+    requires ranges { IsWithinRanges command.now }
     ensures { Ended (SpokenLocal (local_shown command.now))
         (outside_of (F.held files.old) (F.faults files.old) (F.last_failed files.old)
         (R.stream rng.old) (O.put_so_far out.old) (O.faults out.old))
         (outside_of (F.held files.new) (F.faults files.new) (F.last_failed files.new)
         (R.stream rng.new) (O.put_so_far out.new) (O.faults out.new)) result }
 {
-    let library = read_library(alloc, command.library, files)?;
-    let tested = match test(library.shape()) {
-        Ok(tested) => tested,
-        Err(fault) => return Err(Refusal::Test(fault)),
-    };
-    let Ok(loaded) = Loaded::new(alloc, library, tested) else {
-        return Err(Refusal::Memory);
-    };
+    let loaded = load(alloc, command.library, files)?;
     let found = match ask(rt, alloc, &loaded, command, rng) {
         Ok(found) => found,
         Err(fault) => return Err(Refusal::Search(fault)),

@@ -11,12 +11,12 @@ use crate::refusals::{Refusal, tell};
 use crate::shape::show;
 use crate::words::{Command, read_command};
 use co_link::{Files, Sink};
+use co_server::Runs;
 use rand_core::Rng;
 use std::alloc::Global;
-use std::thread::Threads;
 
 // Does what a command says.
-fn execute<T: Threads + Sync, F: Files, R: Rng, O: Sink>(
+fn execute<T: Runs, F: Files, R: Rng, O: Sink>(
     rt: &T,
     alloc: Global,
     command: &Command<'_>,
@@ -24,7 +24,8 @@ fn execute<T: Threads + Sync, F: Files, R: Rng, O: Sink>(
     rng: &mut R,
     out: &mut O,
 ) -> Result<(), Refusal>
-    requires { AreWithinRanges command.now }
+    requires shared { T.is_shared }
+    requires ranges { AreWithinRanges command.now }
     ensures { Ended (command_shown command.now)
         (outside_of (F.held files.old) (F.faults files.old) (F.last_failed files.old)
         (R.stream rng.old) (O.put_so_far out.old) (O.faults out.old))
@@ -42,7 +43,7 @@ fn execute<T: Threads + Sync, F: Files, R: Rng, O: Sink>(
 
 /// Does all that the program does: reads the words, does what they say, and answers the status. The
 /// random words of a search are those of `rng`.
-pub fn run<T: Threads + Sync, F: Files, R: Rng, O: Sink, E: Sink>(
+pub fn run<T: Runs, F: Files, R: Rng, O: Sink, E: Sink>(
     rt: &T,
     alloc: Global,
     words: &[String],
@@ -51,6 +52,7 @@ pub fn run<T: Threads + Sync, F: Files, R: Rng, O: Sink, E: Sink>(
     out: &mut O,
     err: &mut E,
 ) -> u8
+    requires { T.is_shared }
     ensures { let was = outside_of (F.held files.old) (F.faults files.old) (F.last_failed files.old)
         (R.stream rng.old) (O.put_so_far out.old) (O.faults out.old) in
         let is = outside_of (F.held files.new) (F.faults files.new) (F.last_failed files.new)
