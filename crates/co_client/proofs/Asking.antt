@@ -1,5 +1,5 @@
 -- What a round tells where its exchange gives no body.
-use Rattle.std.proofs.Common.{◌≡◌, ℕ, inl, inr, List, Option}
+use Rattle.std.proofs.Common.{◌≡◌, ℕ, inl, inr, ap, ◌∙◌, List, Option, Result, Ok, Err}
 use Rattle.co_link.specs.declared.messages.Request.{Request}
 use Rattle.co_link.specs.declared.messages.Exchange.{Exchange}
 use Rattle.co_client.specs.declared.fault.SearchFault.{SearchFault}
@@ -7,7 +7,8 @@ use Rattle.co_client.specs.declared.fault.SearchFault.TheVariants.{TooManyKeywor
 use Rattle.co_client.specs.Openings.{IsRefusedBody}
 use Rattle.co_client.specs.Published.{public_request, PublicFails}
 use Rattle.co_rounds.specs.Answers.{reply_with}
-use Rattle.co_client.specs.Rounds.{Comes, AskFails, RoundFails}
+use Rattle.co_link.specs.Exchanges.{LinkCall}
+use Rattle.co_client.specs.Rounds.{Comes, AskFails, RoundFails, LinkFails}
 
 pub ask-round : (size : ℕ) (was now : Option (List Exchange)) (r : Request) (fault : SearchFault) → AskFails was now r fault → RoundFails size was now r fault
 ask-round size was now r (Refused target status) h = h
@@ -51,3 +52,10 @@ body-round size was now r body (WrongRecord wanted found) c h = absurd h
 body-round size was now r body (BadPlace document) c h = absurd h
 body-round size was now r body (NotByte target reply place) c h = absurd h
 body-round size was now r body (BadRecord document place) c h = absurd h
+
+-- a failed link of one call, as that of a search
+err-conv : {A B : Type 0} (x y : SearchFault) → Err {A = A} {B = SearchFault} x ≡ Err y → Err {A = B} {B = SearchFault} x ≡ Err y
+err-conv {A} {B} x y e = ap (λ (r : Result A SearchFault). elim r as (λ _. Result B SearchFault) [ Ok z ↦ Err x | Err f ↦ Err f ]) e
+
+pub fails-as : {A B : Type 0} (before now : ℕ) (is : Option LinkCall) (call : LinkCall) (r : Result A SearchFault) (fault : SearchFault) → LinkFails {T = A} before now is call r → r ≡ Err fault → LinkFails {T = B} before now is call (Err fault)
+fails-as {A} {B} before now is call r fault h e = record { later = h.later; failed = λ f. h.failed (e ∙ err-conv {B} {A} fault Link f) }

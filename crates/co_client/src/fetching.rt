@@ -14,13 +14,12 @@ ghost use Rattle.co_client.specs.Faults.{IsReadAs};
 
 use crate::asking::ask;
 use crate::fault::SearchFault;
-use crate::querying::put_query;
+use crate::querying::put_row;
 use crate::reading::{check_reply, open_part};
 use crate::scoring::LEAST_LIMIT;
 use crate::starting::Reader;
 use co_link::{Bytes, Link, Target};
 use co_pack::{Place, Record};
-use co_pir::query_message;
 use co_ring::Degree;
 use co_wire::{reply_length, request_length};
 use rand_core::Rng;
@@ -37,13 +36,10 @@ fn bin_query<R: Rng>(
     ensures body { IfOk result (λ body. body ≡ ciphers_bytes (encryptions_draw reader.now.secret (bin_messages reader.now.shape bin) (R.stream rng.old)).0) }
     ensures rest { OnOk result (R.stream rng.new ≡ queries_rest reader.now.secret (bin_messages reader.now.shape bin) (R.stream rng.old)) }
 {
-    let secret = reader.secret();
-    let shape = reader.tested().shape();
-    let degree = Degree::of(shape.degree() as usize);
+    let bins = reader.tested().shape().bins();
     let room = request_length(reader.tested(), Target::Document);
     let mut body = Vec::with_capacity(alloc, room as usize)?;
-    let message = query_message(alloc, degree, shape.bins(), bin)?;
-    put_query(alloc, secret, &message, rng, &mut body)?;
+    put_row(alloc, reader, bins, bin, rng, &mut body)?;
     Ok(Bytes::from_vec(body))
 }
 

@@ -72,20 +72,31 @@ fn document_of(hits: &[Ranked], rank: u32) -> u32
     hits[rank as usize].document
 }
 
-/// The documents of the hits of these ranks, ascending.
-fn documents_of(alloc: Global, hits: &[Ranked], ranks: &[u32]) -> Result<Numbers, AllocError>
+/// The documents of the hits of these ranks.
+fn ranked_documents(
+    alloc: Global,
+    hits: &[Ranked],
+    ranks: &[u32],
+) -> Result<BTreeSet<u32>, AllocError>
     requires { All (λ r. r < length hits.now) ranks.now }
-    ensures { IfOk result (λ documents. documents ≡ in_order nat_cmp (map (document_at hits.now) ranks.now)) }
+    ensures { IfOk result (λ documents. documents.keys ≡ in_order nat_cmp (map (document_at hits.now) ranks.now)) }
 {
-    let mut ascending = BTreeSet::new(alloc);
+    let mut documents = BTreeSet::new(alloc);
     for rank in ranks {
-        ascending.insert(document_of(hits, *rank))?;
-    }
-    let mut documents = Numbers::with_capacity(alloc, ascending.len())?;
-    for document in ascending.iter() {
-        documents.push(*document)?;
+        documents.insert(document_of(hits, *rank))?;
     }
     Ok(documents)
+}
+
+/// Numbers in their order.
+fn list_of(alloc: Global, numbers: &BTreeSet<u32>) -> Result<Numbers, AllocError>
+    ensures { IfOk result (λ list. list ≡ numbers.now.keys) }
+{
+    let mut list = Numbers::with_capacity(alloc, numbers.len())?;
+    for number in numbers.iter() {
+        list.push(*number)?;
+    }
+    Ok(list)
 }
 
 /// Places the hits of a search, each in one of its candidate buckets, no two in one.
@@ -98,20 +109,26 @@ pub fn place_hits(alloc: Global, shape: &Shape, hits: &[Ranked]) -> Result<Placi
     match place(alloc, &choices, buckets(shape.hits())) {
         Ok(placed) => Ok(Placing::Placed(placed)),
         Err(PlaceFault::NoPlacement { items, buckets }) => {
-            let documents = documents_of(alloc, hits, items.as_slice())?;
+            let ascending = ranked_documents(alloc, hits, items.as_slice())?;
+            let documents = list_of(alloc, &ascending)?;
             Ok(Placing::Unplaced { documents, buckets })
         }
         Err(PlaceFault::OutOfMemory) => Err(AllocError),
     }
 }
 
+/// Where a document stands in a list.
+fn found_in(list: &[u32], document: u32) -> Option<usize>
+    ensures { result ≡ position (λ d. d == document) list.now }
+{
+    list.iter().position(|listed| *listed == document)
+}
+
 /// The place of a document in a list, 0 where it isn't there.
 fn place_in(list: &[u32], document: u32) -> usize
     ensures { result ≡ unwrap_or (position (λ d. d == document) list.now) 0 }
 {
-    list.iter()
-        .position(|listed| *listed == document)
-        .unwrap_or(0)
+    found_in(list, document).unwrap_or(0)
 }
 
 /// The place in a bucket's list of the record that is asked: that of the hit of a rank, else the

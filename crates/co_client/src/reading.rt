@@ -59,7 +59,9 @@ pub(crate) fn check_reply(
     }
     for at in 0..count as usize {
         match read_ciphers(alloc, degree, 1, piece_at(degree, body, at)) {
-            Ok(_) => {}
+            Ok(ciphers) => {
+                let _ = ciphers.len();
+            }
             Err(WireFault::Range { place }) => {
                 return Err(SearchFault::BadReply {
                     target,

@@ -1,7 +1,7 @@
 //! The round of the records.
 
 ghost use Rattle.std.specs.Prelude.{◌≡◌, ◌+◌, ◌*◌, ◌<◌, ◌≤◌, true, ℕ, List, Option, Some, None, length, map, slice_index, slice_index_or, IfOk, IfErr, OnOk};
-ghost use Rattle.std.specs.List.{All};
+ghost use Rattle.std.specs.List.{All, position};
 ghost use Rattle.co_link.specs.declared.messages.Target.TheVariants as targets;
 ghost use Rattle.co_bucket.specs.Lists.{bucket_count};
 ghost use Rattle.co_bucket.specs.Rows as rows_specs;
@@ -22,7 +22,7 @@ ghost use Rattle.co_client.specs.Faults.{IsReadAs};
 
 use crate::asking::ask;
 use crate::fault::SearchFault;
-use crate::querying::put_query;
+use crate::querying::put_row;
 use crate::reading::{check_reply, open_part};
 use crate::scoring::LEAST_LIMIT;
 use crate::starting::Reader;
@@ -31,7 +31,6 @@ use co_link::{Bytes, Link, Target};
 use co_list::Listed;
 use co_noise::Shape;
 use co_pack::{Place, RECORD_BYTES, Record, RecordFault, read_record};
-use co_pir::query_message;
 use co_ring::Degree;
 use co_text::Ranked;
 use co_wire::{record_chunks, reply_length, request_length};
@@ -49,6 +48,13 @@ fn records_a_row(degree: u32) -> u32
     1u32.max(degree / RECORD_COEFFICIENTS)
 }
 
+/// The row of the record at a place of a bucket's list.
+fn row_of(degree: u32, place: usize) -> usize
+    ensures { result ≡ record_row degree place }
+{
+    place / records_a_row(degree) as usize
+}
+
 /// The body of a request for records: a query for the row of a place in each bucket.
 fn record_queries<R: Rng>(
     alloc: Global,
@@ -62,17 +68,14 @@ fn record_queries<R: Rng>(
     ensures rest { OnOk result (R.stream rng.new ≡ queries_rest reader.now.secret
         (record_messages reader.now.shape (map (record_row reader.now.shape.degree) places.now)) (R.stream rng.old)) }
 {
-    let secret = reader.secret();
     let shape = reader.tested().shape();
-    let size = shape.degree();
-    let degree = Degree::of(size as usize);
+    let degree = shape.degree();
     let rows = shape.rows();
     let room = request_length(reader.tested(), Target::Meta);
     let mut body = Vec::with_capacity(alloc, room as usize)?;
     for place in places {
-        let row = *place / records_a_row(size) as usize;
-        let message = query_message(alloc, degree, rows, row as u32)?;
-        put_query(alloc, secret, &message, rng, &mut body)?;
+        let row = row_of(degree, *place) as u32;
+        put_row(alloc, reader, rows, row, rng, &mut body)?;
     }
     Ok(Bytes::from_vec(body))
 }
@@ -194,14 +197,18 @@ fn is_placed_here(item: &Option<u32>, rank: u32) -> bool
     }
 }
 
+/// Where the hit of a rank is placed.
+fn placed_at(placed: &[Option<u32>], rank: u32) -> Option<usize>
+    ensures { result ≡ position (readings.is_placed_here rank) placed.now }
+{
+    placed.iter().position(|item| is_placed_here(item, rank))
+}
+
 /// The bucket in which the hit of a rank is placed.
 fn bucket_of(placed: &[Option<u32>], rank: u32) -> usize
     ensures { result ≡ readings.bucket_of placed.now rank }
 {
-    placed
-        .iter()
-        .position(|item| is_placed_here(item, rank))
-        .unwrap_or(0)
+    placed_at(placed, rank).unwrap_or(0)
 }
 
 /// The records of hits by rank, from the replies of the buckets in which they are placed.

@@ -117,9 +117,9 @@ fn score_queries<R: Rng>(
     let slots = room.as_mut_slice();
     let long = request_length(reader.tested(), Target::Score);
     let mut body = Vec::with_capacity(alloc, long as usize)?;
-    for block in 0..shape.keyword_blocks() {
-        let block = block as usize;
-        write_keywords(&table, keywords, block, slots, &mut scratch, &mut message);
+    let blocks = shape.keyword_blocks();
+    for block in 0..blocks {
+        write_keywords(&table, keywords, block as usize, slots, &mut scratch, &mut message);
         put_query(alloc, secret, &message, rng, &mut body)?;
     }
     Ok(Bytes::from_vec(body))
@@ -181,7 +181,8 @@ fn read_scores(alloc: Global, reader: &Reader, body: &[u8]) -> Result<Vec<u32>, 
     let mut room = vec![in alloc; 0u64; size]?;
     let slots = room.as_mut_slice();
     let mut scores = Vec::with_capacity(alloc, documents)?;
-    for block in 0..shape.document_blocks() {
+    let blocks = shape.document_blocks();
+    for block in 0..blocks {
         read_slots(alloc, reader, &table, body, block as usize, &mut scratch, slots)?;
         add_scores(slots, documents, &mut scores)?;
     }

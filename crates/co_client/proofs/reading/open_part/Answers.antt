@@ -10,4 +10,4 @@ returns-in-Ok c = λ cs all s.
 
 pub returns-in-Err-NotByte : goal.returns-in-Err-NotByte
 returns-in-Err-NotByte c = λ cs all s _.
-    opened-no c.args.target c.args.reply c.in-Err-NotByte.place (opened_reply c.args.secret.now (part_of (c.args.reply * c.args.count) c.args.count cs)) (c.in-Err-NotByte.ensures.fault cs all s)
+    opened-no c.args.target c.args.reply c.in-Err-NotByte.place (opened_reply c.args.secret.now (part_of (c.args.reply * c.args.count) c.args.count cs)) ((rw c.in-Err-NotByte.field-0-is at c.in-Err-NotByte.ensures.fault) cs all s)

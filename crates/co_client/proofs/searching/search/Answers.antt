@@ -1,5 +1,8 @@
 use Rattle.co_client.proofs.Told.{told-at}
 use Rattle.co_client.proofs.Trails.{made-extends}
+use Rattle.co_client.proofs.Finishes.{found-told}
+use Rattle.co_client.proofs.Asking.{ask-round, fails-as}
+use Rattle.co_client.proofs.Scores.{one-scored}
 use Rattle.co_client.proofs.searching.search.Goals as goal
 
 pub returns-clause-planned : goal.returns-clause-planned
