@@ -71,7 +71,7 @@ same_library held name documents settings library other f i =
 -- ---- the search
 
 -- a search for the terms of a text, over a link that never fails
-abbrev for_text : List ℕ → ℕ → Stream → Search
+abbrev pub for_text : List ℕ → ℕ → Stream → Search
 for_text text pick random = record { query = terms text; pick = pick; stream = random; before = 0; now = 0; last_failed = None }
 
 -- of a new link all exchanges are those of the search
@@ -106,8 +106,8 @@ no_exchange : {A : Type 0} (x : A) (xs : List A) → [] ≡ x ∷ xs → ⊥
 no_exchange x xs same = absurd cc
 
 -- a search that isn't begun, for want of memory
-pub unsearched : (p : LocalWords) (library : Parts) (random : Stream) → IsSearched p library random random (Err searching.OutOfMemory)
-unsearched p library random = record {
+pub not_begun : (p : LocalWords) (library : Parts) (random : Stream) → IsSearched p library random random (Err searching.OutOfMemory)
+not_begun p library random = record {
   exchanges = [];
   honest = tt;
   planned = refl;
@@ -124,9 +124,9 @@ unsearched p library random = record {
 }
 
 -- a search in the library of a file
-searched : (p : LocalWords) (held : Option Folder) (was is : Stream) (result : Result Found SearchFault) (library : Parts) → CanBeServed held p.library library
+in_file : (p : LocalWords) (held : Option Folder) (was is : Stream) (result : Result Found SearchFault) (library : Parts) → CanBeServed held p.library library
     → IsSearched p library was is result → Searched p held was is result
-searched p held was is result library served search = record {
+in_file p held was is result library served search = record {
   library = library;
   served = served;
   search = search;
@@ -151,12 +151,12 @@ pub local_unsearched : (p : LocalWords) (was is : Outside) (library : Parts) (fa
     → IsSearched p library was.random is.random (Err fault) → is.out.bytes ≡ was.out.bytes → is.files.held ≡ was.files.held
     → RefusedBy (SpokenLocal p) was is (Unsearched fault)
 local_unsearched p was is library fault served search out files =
-    record { cause = searched p was.files.held was.random is.random (Err fault) library served search; out = out; files = files; draws = tt }
+    record { cause = in_file p was.files.held was.random is.random (Err fault) library served search; out = out; files = files; draws = tt }
 
 local_prints : (p : LocalWords) (was is : Outside) (library : Parts) (found : Found) (text : List ℕ) → CanBeServed was.files.held p.library library
     → IsSearched p library was.random is.random (Ok found) → text ≡ printed found → LocalAnswer p was.files.held was.random is.random text
 local_prints p was is library found text served search text_is =
-    record { found = found; searched = searched p was.files.held was.random is.random (Ok found) library served search; text_is = text_is }
+    record { found = found; searched = in_file p was.files.held was.random is.random (Ok found) library served search; text_is = text_is }
 
 pub local_answered : (p : LocalWords) (was is : Outside) (library : Parts) (found : Found) (text : List ℕ) → CanBeServed was.files.held p.library library
     → IsSearched p library was.random is.random (Ok found) → text ≡ printed found → Took was.out is.out text → is.files.held ≡ was.files.held
