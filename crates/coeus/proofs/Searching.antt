@@ -83,9 +83,9 @@ pub searched_over : (p : LocalWords) (library : Parts) (was is : Stream) (result
     → ((es : List Exchange) → made (Some before) (Some now) ≡ Some es → IfOk result (IsRead (for_text text p.pick was) es))
     → ((es : List Exchange) → made (Some before) (Some now) ≡ Some es → IfErr result (IsCause (for_text text p.pick was) es))
     → ((es : List Exchange) → made (Some before) (Some now) ≡ Some es → (s : Numbers) (ts : List (List ℕ)) → Publishes es s ts → test_of s ≡ Ok s
-        → Asks (for_text text p.pick was) es s ts result is)
+    → Asks (for_text text p.pick was) es s ts result is)
     → ((es : List Exchange) → made (Some before) (Some now) ≡ Some es → (documents : List Document) (settings : Settings) (l : Parts) (held : Option (List ℕ))
-        → IsLibraryFor documents settings l → AreHonest l held es → AnswersPlainly documents settings l (terms text) p.pick result)
+    → IsLibraryFor documents settings l → AreHonest l held es → AnswersPlainly documents settings l (terms text) p.pick result)
     → IsSearched p library was is result
 searched_over p library was is result text before now same new honest planned whole going read refused asked plain =
     let all : made (Some before) (Some now) ≡ Some now = ap (λ (es : List Exchange). made (Some es) (Some now)) new in

@@ -34,7 +34,8 @@ sink_state bytes faults = record { bytes = bytes; faults = faults }
 abbrev pub outside : FilesState → Stream → SinkState → Outside
 outside files random out = record { files = files; random = random; out = out }
 
-abbrev pub outside_of : Option Folder → ℕ → Option FileCall → Stream → Option (List ℕ) → ℕ → Outside
+abbrev pub outside_of : Option Folder → ℕ → Option FileCall → Stream → Option (List ℕ) → ℕ
+    → Outside
 outside_of held faults last_failed random bytes put_faults =
     outside (files_state held faults last_failed) random (sink_state bytes put_faults)
 

@@ -69,8 +69,6 @@ fn main(rt: HostRuntime) -> ExitCode {
     };
     let mut files = StdFiles::new(&rt, alloc);
     let mut out = StdSink::new(rt.stdout());
-    let status = run(
-        &rt, alloc, &words, &mut files, &mut rng, &mut out, &mut err,
-    );
+    let status = run(&rt, alloc, &words, &mut files, &mut rng, &mut out, &mut err);
     ExitCode::from(status)
 }

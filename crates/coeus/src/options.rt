@@ -183,7 +183,7 @@ impl Options {
     /// The pick, 1 to 64, or else 1.
     pub fn pick(self) -> Option<u32>
         ensures value { result ≡ pick_of self }
-    ensures within { IfSome result (λ pick. (1 ≤ pick) × (pick ≤ 64)) }
+        ensures within { IfSome result (λ pick. (1 ≤ pick) × (pick ≤ 64)) }
     {
         within(self.pick, DEFAULT_PICK, MAX_PICK)
     }
@@ -191,7 +191,7 @@ impl Options {
     /// The number of workers, 1 to 64, or else 4.
     pub fn workers(self) -> Option<u32>
         ensures value { result ≡ workers_of self }
-    ensures within { IfSome result (λ workers. (1 ≤ workers) × (workers ≤ 64)) }
+        ensures within { IfSome result (λ workers. (1 ≤ workers) × (workers ≤ 64)) }
     {
         within(self.workers, DEFAULT_WORKERS, MAX_WORKERS)
     }

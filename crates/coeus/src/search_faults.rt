@@ -59,7 +59,10 @@ fn say_round<E: Sink>(before: &str, target: Target, number: u64, err: &mut E)
         Says (round_text before.now target number) was is }
 {
     let mut digits = Buffer::new();
-    say(&[before, round_name(target), " ", digits.format(number)], err);
+    say(
+        &[before, round_name(target), " ", digits.format(number)],
+        err,
+    );
 }
 
 // Says a text with two numbers behind it.
@@ -85,7 +88,10 @@ fn say_byte<E: Sink>(target: Target, reply: u32, place: u32, err: &mut E)
     let mut more_digits = Buffer::new();
     let reply = digits.format(reply);
     let place = more_digits.format(place);
-    say(&["not a byte ", round_name(target), " ", reply, " ", place], err);
+    say(
+        &["not a byte ", round_name(target), " ", reply, " ", place],
+        err,
+    );
 }
 
 // Puts numbers on the error output, each with a space before it.
