@@ -85,11 +85,11 @@ search_for p random = record {
 }
 
 -- a search over exchanges that are honest to a library has this result: number, order and lengths
--- of its requests are planned by the published numbers, and one follows another only where few terms
--- are asked, the numbers pass the test and the reply was taken; what it answers is read from them;
--- they are the drawn ones, and after an answer or a refused placement the random words are left where these
--- draws leave them. If the library is that of a corpus, the result is the plain answer, or that its
--- hits can't be placed
+-- of its requests are planned by the published numbers, and one follows another only where few
+-- terms are asked, the numbers pass the test and the reply was taken; what it answers is read from
+-- them; they are the drawn ones, and after an answer or a refused placement the random words are
+-- left where these draws leave them. If the library is that of a corpus, the result is the plain
+-- answer, or that its hits can't be placed
 pub record IsSearched (p : LocalWords) (library : Parts) (was is : Stream)
     (result : Result Found SearchFault) : Type 0 where
   pub exchanges : List Exchange
