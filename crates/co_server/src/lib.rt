@@ -23,6 +23,3 @@ pub use replies::reply_of;
 pub use replying::reply_with;
 pub use runs::Runs;
 pub use session::Session;
-
-#[cfg(test)]
-mod tests;

@@ -83,6 +83,7 @@ impl<'a, R: Runs> LocalLink<'a, R> {
 impl<'a, R: Runs> Link for LocalLink<'a, R> {
     ghost use Rattle.std.specs.Prelude.{Some, true, ℕ, Option, None};
     ghost use Rattle.co_link.specs.Exchanges.{DialCall};
+    ghost use Rattle.co_library.specs.Libraries.{Parts};
 
     ghost exchanges = { λ s. Some s.told };
 
@@ -92,9 +93,9 @@ impl<'a, R: Runs> Link for LocalLink<'a, R> {
 
     ghost is_ready = { λ s. true };
 
-    ghost Beside = { ℕ × Option DialCall };
+    ghost Beside = { Parts × (ℕ × Option DialCall) };
 
-    ghost beside = { λ s. s.dialling };
+    ghost beside = { λ s. (s.library, s.dialling) };
 
     fn exchange(&mut self, request: Request, limit: u64) -> Result<Reply, LinkFault> {
         let _ = limit;
@@ -132,7 +133,7 @@ impl<'a, R: Runs> Dial for LocalLink<'a, R> {
 
     ghost last_dial = { λ s. s.dialling.1 };
 
-    ghost exchange_leaves = { λ a b e. (ap (λ p. p.0) e, ap (λ p. p.1) e) };
+    ghost exchange_leaves = { λ a b e. (ap (λ p. p.1.0) e, ap (λ p. p.1.1) e) };
 
     fn dial(&mut self, host: &str, port: u16) -> Result<(), LinkFault> {
         self.dials.add(self.alloc, host, port)?;
