@@ -28,7 +28,7 @@ held s bucket d b is =
       least = d.least;
       most = d.most;
       is = d.is;
-      each = λ i x u. length-replicate 256 0;
+      each = λ i x u. length-replicate {A = ℕ} 256 0;
       few = subst (λ (r : ℕ). length (bucket_documents s bucket) ≤ r * records_a_row s.degree) (sym is)
           (subst (λ (xs : List ℕ). length xs ≤ rows_of s.degree s.documents s.hits s.salt * records_a_row s.degree) (list_at s.salt (bucket_count s.hits) s.documents bucket b) (rows.holds bucket [] inside));
     }

@@ -54,8 +54,8 @@ body-round size was now r body (NotByte target reply place) c h = absurd h
 body-round size was now r body (BadRecord document place) c h = absurd h
 
 -- a failed link of one call, as that of a search
-err-conv : {A B : Type 0} (x y : SearchFault) → Err {A = A} {B = SearchFault} x ≡ Err y → Err {A = B} {B = SearchFault} x ≡ Err y
+err-conv : {A B : Type 0} (x y : SearchFault) → ◌≡◌ {A = Result A SearchFault} (Err x) (Err y) → ◌≡◌ {A = Result B SearchFault} (Err x) (Err y)
 err-conv {A} {B} x y e = ap (λ (r : Result A SearchFault). elim r as (λ _. Result B SearchFault) [ Ok z ↦ Err x | Err f ↦ Err f ]) e
 
 pub fails-as : {A B : Type 0} (before now : ℕ) (is : Option LinkCall) (call : LinkCall) (r : Result A SearchFault) (fault : SearchFault) → LinkFails {T = A} before now is call r → r ≡ Err fault → LinkFails {T = B} before now is call (Err fault)
-fails-as {A} {B} before now is call r fault h e = record { later = h.later; failed = λ f. h.failed (e ∙ err-conv {B} {A} fault Link f) }
+fails-as {A} {B} before now is call r fault h e = record { later = h.later; failed = λ f. h.failed (e ∙ err-conv {A = B} {B = A} fault Link f) }

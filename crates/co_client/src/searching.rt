@@ -5,9 +5,15 @@ ghost use Rattle.co_text.specs.Terms.{terms, distinct};
 ghost use Rattle.co_link.specs.declared.messages.Exchange.{Exchange};
 ghost use Rattle.co_noise.specs.Shapes.{Numbers};
 ghost use Rattle.co_noise.specs.Bounds.{test_of};
+ghost use Rattle.co_corpus.specs.declared.documents.Document.{Document};
+ghost use Rattle.co_library.specs.declared.settings.Settings.{Settings};
+ghost use Rattle.co_library.specs.Libraries.{Parts};
+ghost use Rattle.co_rounds.specs.Honest.{AreHonest};
 ghost use Rattle.co_rounds.specs.Plans.{made, Extends, FollowsPlan, IsWholePlan};
+ghost use Rattle.co_rounds.specs.Recording.{IsLibraryFor};
 ghost use Rattle.co_client.specs.Causes.{Search, Publishes, IsRead, IsCause, IsCauseUntold, IsAnswered, Asks};
 ghost use Rattle.co_client.specs.Going.{GoesOn};
+ghost use Rattle.co_client.specs.Plain.{AnswersPlainly};
 ghost use Rattle.co_client.specs.Telling.{Told};
 ghost use Rattle.co_client.specs.Faults.{IsManyTerms};
 ghost use Rattle.co_client.specs.Placings.{concluded};
@@ -161,6 +167,10 @@ pub fn search<K: Link, R: Rng>(
 ) -> Result<Found, SearchFault>
     requires pick { (1 ≤ pick) × (pick ≤ 64) }
     requires ready { K.is_ready link.old ≡ true }
+    // Over exchanges that are honest to the library of a corpus: the plain answer exactly where its hits can be placed.
+    ensures plain { (es : List Exchange) → made (K.exchanges link.old) (K.exchanges link.new) ≡ Some es
+        → (documents : List Document) (settings : Settings) (l : Parts) (held : Option (List ℕ)) → IsLibraryFor documents settings l → AreHonest l held es
+        → AnswersPlainly documents settings l (terms query.now) pick result }
     // Over any exchanges: number, order and lengths of the requests follow the published parameters.
     ensures planned { (es : List Exchange) → made (K.exchanges link.old) (K.exchanges link.new) ≡ Some es → FollowsPlan es }
     ensures whole { (es : List Exchange) → made (K.exchanges link.old) (K.exchanges link.new) ≡ Some es → IsAnswered result → IsWholePlan es }
