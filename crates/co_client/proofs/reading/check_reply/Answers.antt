@@ -30,4 +30,4 @@ returns-in-Err-Range-clause-refused c =
     let room : (at + 1) * (28 * n) ≤ length body = omega (arith, mul-le-mul_right (28 * n) next, long) in
     let fault = rw c.in-Err-Range.field-0-is at c.in-Err-Range.ensures.fault in
     let here = subst (λ (piece : List ℕ). IsFirstOutOfRange piece place) c.piece_at.ensures fault.1 in
-    (refl, inr (long, subst (λ (p : ℕ). IsFirstOutOfRange body (at * (28 * c.get-n.result) + p)) c.in-Err-Range.place-is (subst (λ (k : ℕ). IsFirstOutOfRange body (at * (28 * k) + place)) (sym same) (first-behind n at body place room c.loop-at.invariant here))))
+    (refl, inr (long, subst (λ (p : ℕ). IsFirstOutOfRange body (at * (28 * c.get-n.result) + p)) (sym c.in-Err-Range.place-is) (subst (λ (k : ℕ). IsFirstOutOfRange body (at * (28 * k) + place)) (sym same) (first-behind n at body place room c.loop-at.invariant here))))
