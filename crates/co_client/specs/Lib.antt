@@ -1,0 +1,11 @@
+pub mod Faults
+pub mod Records
+pub mod Causes
+pub mod Plain
+pub mod Going
+pub mod Telling
+pub mod Rounds
+pub mod Openings
+pub mod Placings
+pub mod Published
+pub mod Sure

@@ -1,0 +1,48 @@
+-- Where hits are placed, and which records are asked.
+use Rattle.std.specs.Prelude.{◌≡◌, ◌<◌, ℕ, List, [], length, map, Option, Some, None, Result, Ok, Err, slice_index_or}
+use Rattle.std.specs.List.{range_with_len}
+use Rattle.co_noise.specs.Shapes.{Numbers}
+use Rattle.co_text.specs.declared.ranks.Ranked.{Ranked}
+use Rattle.co_bucket.specs.Lists.{bucket_count}
+use Rattle.co_bucket.specs.Placement.{IsPlacement}
+use Rattle.co_rounds.specs.Placing.{choices_of, document_at, place_in_bucket, IsUnplaced}
+use Rattle.co_client.specs.Records.{bucket_of}
+use Rattle.co_text.specs.declared.found.Found.{Found}
+use Rattle.co_client.specs.declared.fault.SearchFault.{SearchFault}
+use Rattle.co_client.specs.declared.fault.SearchFault.TheVariants.{NoPlacement}
+use Rattle.co_client.specs.declared.placing.Placing.{Placing}
+use Rattle.co_client.specs.declared.placing.Placing.TheVariants.{Placed, Unplaced}
+
+-- the hits are placed by the least assignment, or there is none
+abbrev pub IsPlacing : Numbers → List Ranked → Placing → Type 0
+IsPlacing s hits (Placed placed) = IsPlacement (choices_of s hits) (bucket_count s.hits) placed
+IsPlacing s hits (Unplaced documents buckets) = IsUnplaced s hits documents buckets
+
+-- bucket by bucket the rank of the hit that is placed there
+abbrev pub by_bucket : Placing → List (Option ℕ)
+by_bucket (Placed placed) = placed
+by_bucket (Unplaced documents buckets) = []
+
+-- the hits whose records are read
+abbrev pub shown_of : Placing → List Ranked → List Ranked
+shown_of (Placed placed) hits = hits
+shown_of (Unplaced documents buckets) hits = []
+
+-- the answer where the hits are placed, else that they can't be
+abbrev pub concluded : Placing → Found → Result Found SearchFault
+concluded (Placed placed) f = Ok f
+concluded (Unplaced documents buckets) f = Err (NoPlacement documents buckets)
+
+-- each hit has its bucket
+pub record HaveBuckets (s : Numbers) (hits : List Ranked) (placed : List (Option ℕ)) : Type 0 where
+  pub within : (rank : ℕ) → rank < length hits → bucket_of placed rank < bucket_count s.hits
+  pub there : (rank : ℕ) → rank < length hits → slice_index_or placed (bucket_of placed rank) None ≡ Some rank
+
+-- the place in a bucket's list of the record that is asked: that of the hit that is placed there, else the first
+abbrev pub place_asked : Numbers → List Ranked → Option ℕ → ℕ → ℕ
+place_asked s hits None bucket = 0
+place_asked s hits (Some rank) bucket = place_in_bucket s bucket (document_at hits rank)
+
+-- the same, bucket by bucket
+abbrev pub places_asked : Numbers → List Ranked → List (Option ℕ) → List ℕ
+places_asked s hits placed = map (λ b. place_asked s hits (slice_index_or placed b None) b) (range_with_len 0 (bucket_count s.hits))

@@ -1,0 +1,246 @@
+//! The round of the records.
+
+ghost use Rattle.std.specs.Prelude.{◌≡◌, ◌+◌, ◌*◌, ◌<◌, ◌≤◌, true, ℕ, List, Option, Some, None, length, map, slice_index, slice_index_or, IfOk, IfErr, OnOk};
+ghost use Rattle.std.specs.List.{All, position};
+ghost use Rattle.co_link.specs.declared.messages.Target.TheVariants as targets;
+ghost use Rattle.co_bucket.specs.Lists.{bucket_count};
+ghost use Rattle.co_bucket.specs.Rows as rows_specs;
+ghost use Rattle.co_bucket.specs.Bytes as layouts;
+ghost use Rattle.co_bucket.specs.Bytes.{record_row};
+ghost use Rattle.co_bfv.specs.Ciphertexts.{Ciphertext};
+ghost use Rattle.co_pack.specs.Records.{record_of};
+ghost use Rattle.co_wire.specs.Bodies.{SpellsCiphers, ciphers_bytes};
+ghost use Rattle.co_wire.specs.Lengths.{reply_size, reply_limit};
+ghost use Rattle.co_rounds.specs.Asked.{encryptions_draw};
+ghost use Rattle.co_rounds.specs.Placing.{place_in_bucket};
+ghost use Rattle.co_rounds.specs.Recording as recordings;
+ghost use Rattle.co_client.specs.Rounds.{RoundFails, LinkFails, Gives, queries_request, queries_rest, record_messages};
+ghost use Rattle.co_client.specs.Placings.{places_asked, HaveBuckets};
+ghost use Rattle.co_client.specs.Records as readings;
+ghost use Rattle.co_client.specs.Records.{checked, record_read, records_read};
+ghost use Rattle.co_client.specs.Faults.{IsReadAs};
+
+use crate::asking::ask;
+use crate::fault::SearchFault;
+use crate::querying::put_row;
+use crate::reading::{check_reply, open_part};
+use crate::scoring::LEAST_LIMIT;
+use crate::starting::Reader;
+use co_bucket::buckets;
+use co_link::{Bytes, Link, Target};
+use co_list::Listed;
+use co_noise::Shape;
+use co_pack::{Place, RECORD_BYTES, Record, RecordFault, read_record};
+use co_ring::Degree;
+use co_text::Ranked;
+use co_wire::{record_chunks, reply_length, request_length};
+use rand_core::Rng;
+use std::alloc::{AllocError, Global};
+
+/// The coefficients that hold a record, two bytes each.
+const RECORD_COEFFICIENTS: u32 = 128;
+
+/// How many records a row of a bucket holds.
+fn records_a_row(degree: u32) -> u32
+    ensures value { result ≡ rows_specs.records_a_row degree }
+    ensures some { 1 ≤ result }
+{
+    1u32.max(degree / RECORD_COEFFICIENTS)
+}
+
+/// The row of the record at a place of a bucket's list.
+fn row_of(degree: u32, place: usize) -> usize
+    ensures { result ≡ record_row degree place }
+{
+    place / records_a_row(degree) as usize
+}
+
+/// The body of a request for records: a query for the row of a place in each bucket.
+fn record_queries<R: Rng>(
+    alloc: Global,
+    reader: &Reader,
+    places: &[usize],
+    rng: &mut R,
+) -> Result<Bytes, AllocError>
+    requires { All (λ p. record_row reader.now.shape.degree p < reader.now.shape.rows) places.now }
+    ensures body { IfOk result (λ body. body ≡ ciphers_bytes (encryptions_draw reader.now.secret
+        (record_messages reader.now.shape (map (record_row reader.now.shape.degree) places.now)) (R.stream rng.old)).0) }
+    ensures rest { OnOk result (R.stream rng.new ≡ queries_rest reader.now.secret
+        (record_messages reader.now.shape (map (record_row reader.now.shape.degree) places.now)) (R.stream rng.old)) }
+{
+    let shape = reader.tested().shape();
+    let degree = shape.degree();
+    let rows = shape.rows();
+    let room = request_length(reader.tested(), Target::Meta);
+    let mut body = Vec::with_capacity(alloc, room as usize)?;
+    for place in places {
+        let row = row_of(degree, *place) as u32;
+        put_row(alloc, reader, rows, row, rng, &mut body)?;
+    }
+    Ok(Bytes::from_vec(body))
+}
+
+/// Asks each bucket for the row of a place in its list, and gives the body of the reply, which spells
+/// what each bucket answers. After an error the rest of the stream is not stated.
+pub fn gather<K: Link, R: Rng>(
+    alloc: Global,
+    link: &mut K,
+    rng: &mut R,
+    reader: &Reader,
+    places: &[usize],
+) -> Result<Bytes, SearchFault>
+    requires ready { K.is_ready link.old ≡ true }
+    requires rows { All (λ p. record_row reader.now.shape.degree p < reader.now.shape.rows) places.now }
+    ensures came { IfOk result (Gives reader.now.shape.degree (bucket_count reader.now.shape.hits * layouts.record_chunks reader.now.shape.degree) (K.exchanges link.old) (K.exchanges link.new)
+        (queries_request targets.Meta reader.now.secret (record_messages reader.now.shape (map (record_row reader.now.shape.degree) places.now)) (R.stream rng.old))) }
+    ensures rest { OnOk result (R.stream rng.new ≡ queries_rest reader.now.secret
+        (record_messages reader.now.shape (map (record_row reader.now.shape.degree) places.now)) (R.stream rng.old)) }
+    ensures refused { IfErr result (RoundFails (reply_size reader.now.shape targets.Meta) (K.exchanges link.old) (K.exchanges link.new)
+        (queries_request targets.Meta reader.now.secret (record_messages reader.now.shape (map (record_row reader.now.shape.degree) places.now)) (R.stream rng.old))) }
+    ensures cause { LinkFails (K.faults link.old) (K.faults link.new) (K.last_failed link.new) (record { target = targets.Meta; limit = reply_limit reader.now.shape targets.Meta }) result }
+    ensures ready { K.is_ready link.new ≡ true }
+    ensures beside { K.beside link.new ≡ K.beside link.old }
+{
+    let shape = reader.tested().shape();
+    let degree = Degree::of(shape.degree() as usize);
+    let Ok(queries) = record_queries(alloc, reader, places, rng) else {
+        return Err(SearchFault::OutOfMemory);
+    };
+    let limit = reply_length(reader.tested(), Target::Meta).max(LEAST_LIMIT);
+    let body = match ask(link, Target::Meta, queries, limit) {
+        Ok(body) => body,
+        Err(fault) => return Err(fault),
+    };
+    let count = buckets(shape.hits()) * record_chunks(shape.degree());
+    match check_reply(alloc, degree, count, Target::Meta, body.as_slice()) {
+        Ok(()) => Ok(body),
+        Err(fault) => Err(fault),
+    }
+}
+
+/// Whether a place is inside the bins.
+fn is_within_bins(shape: &Shape, place: Place) -> bool
+    ensures { result ≡ recordings.is_within_bins shape.now place }
+{
+    let _ = shape.degree();
+    place.bin < shape.bins()
+        && place.offset as u64 + place.length as u64
+            <= shape.chunks() as u64 * (2 * shape.degree() as u64)
+}
+
+/// The record of a document, where it is whole, the document's own, and its place is inside the
+/// bins.
+fn check_record(
+    alloc: Global,
+    shape: &Shape,
+    document: u32,
+    bytes: &[u8],
+) -> Result<Record, SearchFault>
+    requires { length bytes.now ≡ RECORD_BYTES }
+    ensures { IsReadAs result (checked shape.now document (record_of bytes.now)) }
+{
+    let record = match read_record(alloc, bytes) {
+        Ok(record) => record,
+        Err(RecordFault::BadRecord { place }) => {
+            return Err(SearchFault::BadRecord { document, place });
+        }
+        Err(RecordFault::OutOfMemory) => return Err(SearchFault::OutOfMemory),
+    };
+    if record.document != document {
+        return Err(SearchFault::WrongRecord {
+            wanted: document,
+            found: record.document,
+        });
+    }
+    if !is_within_bins(shape, record.place) {
+        return Err(SearchFault::BadPlace { document });
+    }
+    Ok(record)
+}
+
+/// The record of a document that stands at a place of a bucket's list.
+#[tactic(auto, unfolding(crate::specs::Records::record_read))]
+fn read_one(
+    alloc: Global,
+    reader: &Reader,
+    body: &[u8],
+    bucket: u32,
+    place: usize,
+    document: u32,
+) -> Result<Record, SearchFault>
+    requires whole { length body.now ≡ reply_size reader.now.shape targets.Meta }
+    requires bucket { bucket < bucket_count reader.now.shape.hits }
+    requires place { place ≡ place_in_bucket reader.now.shape bucket document }
+    ensures { (cs : List Ciphertext) (all : ℕ) → SpellsCiphers reader.now.shape.degree all cs body.now
+        → IsReadAs result (record_read reader.now.shape reader.now.secret cs bucket document) }
+{
+    let shape = reader.tested().shape();
+    let size = shape.degree();
+    let degree = Degree::of(size as usize);
+    let count = record_chunks(size);
+    let secret = reader.secret();
+    let row = match open_part(alloc, secret, degree, body, count, Target::Meta, bucket) {
+        Ok(row) => row,
+        Err(fault) => return Err(fault),
+    };
+    let start = RECORD_BYTES * (place % records_a_row(size) as usize);
+    check_record(alloc, shape, document, &row.as_slice()[start..start + RECORD_BYTES])
+}
+
+/// Whether the hit of a rank is placed here.
+fn is_placed_here(item: &Option<u32>, rank: u32) -> bool
+    ensures { result ≡ readings.is_placed_here rank item.now }
+{
+    match item {
+        Some(placed) => *placed == rank,
+        None => false,
+    }
+}
+
+/// Where the hit of a rank is placed.
+fn placed_at(placed: &[Option<u32>], rank: u32) -> Option<usize>
+    ensures { result ≡ position (readings.is_placed_here rank) placed.now }
+{
+    placed.iter().position(|item| is_placed_here(item, rank))
+}
+
+/// The bucket in which the hit of a rank is placed.
+fn bucket_of(placed: &[Option<u32>], rank: u32) -> usize
+    ensures { result ≡ readings.bucket_of placed.now rank }
+{
+    placed_at(placed, rank).unwrap_or(0)
+}
+
+/// The records of hits by rank, from the replies of the buckets in which they are placed.
+pub fn read_records(
+    alloc: Global,
+    reader: &Reader,
+    body: &[u8],
+    hits: &[Ranked],
+    placed: &[Option<u32>],
+    places: &[usize],
+) -> Result<Listed<Record>, SearchFault>
+    requires whole { length body.now ≡ reply_size reader.now.shape targets.Meta }
+    requires placed { HaveBuckets reader.now.shape hits.now placed.now }
+    requires few { length hits.now ≤ 64 }
+    requires places { places.now ≡ places_asked reader.now.shape hits.now placed.now }
+    ensures { (cs : List Ciphertext) (all : ℕ) → SpellsCiphers reader.now.shape.degree all cs body.now
+        → IsReadAs result (records_read reader.now.shape reader.now.secret cs placed.now 0 hits.now) }
+{
+    let Ok(mut records) = Listed::with_capacity(alloc, hits.len()) else {
+        return Err(SearchFault::OutOfMemory);
+    };
+    for rank in 0..hits.len() {
+        let bucket = bucket_of(placed, rank as u32);
+        let place = places[bucket];
+        let document = hits[rank].document;
+        let record = match read_one(alloc, reader, body, bucket as u32, place, document) {
+            Ok(record) => record,
+            Err(fault) => return Err(fault),
+        };
+        let Ok(()) = records.push(record) else {
+            return Err(SearchFault::OutOfMemory);
+        };
+    }
+    Ok(records)
+}

@@ -1,0 +1,195 @@
+//! The search.
+
+ghost use Rattle.std.specs.Prelude.{◌≡◌, ◌≤◌, ℕ, List, Option, Some, true, length, Ok, IfOk, IfErr};
+ghost use Rattle.co_text.specs.Terms.{terms, distinct};
+ghost use Rattle.co_link.specs.declared.messages.Exchange.{Exchange};
+ghost use Rattle.co_noise.specs.Shapes.{Numbers};
+ghost use Rattle.co_noise.specs.Bounds.{test_of};
+ghost use Rattle.co_corpus.specs.declared.documents.Document.{Document};
+ghost use Rattle.co_library.specs.declared.settings.Settings.{Settings};
+ghost use Rattle.co_library.specs.Libraries.{Parts};
+ghost use Rattle.co_rounds.specs.Honest.{AreHonest};
+ghost use Rattle.co_rounds.specs.Plans.{made, Extends, FollowsPlan, IsWholePlan};
+ghost use Rattle.co_rounds.specs.Recording.{IsLibraryFor};
+ghost use Rattle.co_client.specs.Causes.{Search, Publishes, IsRead, IsCause, IsCauseUntold, IsAnswered, Asks};
+ghost use Rattle.co_client.specs.Going.{GoesOn};
+ghost use Rattle.co_client.specs.Plain.{AnswersPlainly};
+ghost use Rattle.co_client.specs.Telling.{Told};
+ghost use Rattle.co_client.specs.Faults.{IsManyTerms};
+ghost use Rattle.co_client.specs.Placings.{concluded};
+ghost use Rattle.co_client.specs.Records.{hit_shown, hits_shown};
+
+use crate::fault::SearchFault;
+use crate::fetching::{bin_of, fetch, read_document};
+use crate::placing::{Placing, place_hits, places};
+use crate::publishing::consult;
+use crate::recording::{gather, read_records};
+use crate::scoring::rank;
+use crate::starting::start;
+use co_link::Link;
+use co_pack::Record;
+use co_text::{Found, Hit, Hits, QueryFault, Ranked, Terms, query_terms};
+use rand_core::Rng;
+use std::alloc::{AllocError, Global};
+
+/// The distinct terms of a query.
+fn keywords_of(alloc: Global, query: &str) -> Result<Terms, SearchFault>
+    ensures found { IfOk result (λ found. found ≡ distinct (terms query.now)) }
+    ensures few { IfOk result (λ found. length found ≤ 16) }
+    ensures refused { IfErr result (IsManyTerms (length (distinct (terms query.now)))) }
+{
+    match query_terms(alloc, query) {
+        Ok(keywords) => Ok(keywords),
+        Err(QueryFault::TooManyKeywords { found }) => Err(SearchFault::TooManyKeywords { found }),
+        Err(QueryFault::OutOfMemory) => Err(SearchFault::OutOfMemory),
+    }
+}
+
+/// A hit with the title of its record.
+fn with_title(ranked: &Ranked, read: &Record) -> Result<Hit, AllocError>
+    ensures { IfOk result (λ hit. hit ≡ hit_shown ranked.now read.now) }
+{
+    Ok(Hit {
+        document: ranked.document,
+        score: ranked.score,
+        title: read.title.copy()?,
+    })
+}
+
+/// Hits with the titles of their records.
+fn with_titles(alloc: Global, ranked: &[Ranked], records: &[Record]) -> Result<Hits, AllocError>
+    requires { length records.now ≡ length ranked.now }
+    ensures { IfOk result (λ hits. hits ≡ hits_shown ranked.now records.now) }
+{
+    let mut hits = Hits::with_capacity(alloc, ranked.len())?;
+    for at in 0..ranked.len() {
+        hits.push(with_title(&ranked[at], &records[at])?)?;
+    }
+    Ok(hits)
+}
+
+/// The answer where the hits are placed, else that they can't be.
+fn conclude(placing: Placing, found: Found) -> Result<Found, SearchFault>
+    ensures { result ≡ concluded placing found }
+{
+    match placing {
+        Placing::Placed(_) => Ok(found),
+        Placing::Unplaced { documents, buckets } => {
+            Err(SearchFault::NoPlacement { documents, buckets })
+        }
+    }
+}
+
+/// The search, with all that it tells in one clause.
+fn conduct<K: Link, R: Rng>(
+    alloc: Global,
+    link: &mut K,
+    rng: &mut R,
+    query: &str,
+    pick: u32,
+) -> Result<Found, SearchFault>
+    requires pick { (1 ≤ pick) × (pick ≤ 64) }
+    requires ready { K.is_ready link.old ≡ true }
+    ensures told { Told (record { query = terms query.now; pick = pick; stream = R.stream rng.old; before = K.faults link.old; now = K.faults link.new; last_failed = K.last_failed link.new }) (K.exchanges link.old) (K.exchanges link.new) result (R.stream rng.new) }
+    ensures untold { IfErr result (IsCauseUntold (record { query = terms query.now; pick = pick; stream = R.stream rng.old; before = K.faults link.old; now = K.faults link.new; last_failed = K.last_failed link.new })) }
+    ensures faults { K.faults link.old ≤ K.faults link.new }
+    ensures ready { K.is_ready link.new ≡ true }
+    ensures beside { K.beside link.new ≡ K.beside link.old }
+{
+    let keywords = match keywords_of(alloc, query) {
+        Ok(keywords) => keywords,
+        Err(fault) => return Err(fault),
+    };
+    let published = match consult(alloc, link, &keywords) {
+        Ok(published) => published,
+        Err(fault) => return Err(fault),
+    };
+    let reader = match start(alloc, link, rng, &published.tested) {
+        Ok(reader) => reader,
+        Err(fault) => return Err(fault),
+    };
+    let ranked = match rank(alloc, link, rng, &reader, published.keywords.as_slice()) {
+        Ok(ranked) => ranked,
+        Err(fault) => return Err(fault),
+    };
+    let shape = reader.tested().shape();
+    let Ok(placing) = place_hits(alloc, shape, ranked.as_slice()) else {
+        return Err(SearchFault::OutOfMemory);
+    };
+    let shown = placing.shown(ranked.as_slice());
+    let Ok(spots) = places(alloc, shape, shown, placing.by_bucket()) else {
+        return Err(SearchFault::OutOfMemory);
+    };
+    let body = match gather(alloc, link, rng, &reader, &spots) {
+        Ok(body) => body,
+        Err(fault) => return Err(fault),
+    };
+    let placed = placing.by_bucket();
+    let records = match read_records(alloc, &reader, body.as_slice(), shown, placed, &spots) {
+        Ok(records) => records,
+        Err(fault) => return Err(fault),
+    };
+    let bin = bin_of(records.as_slice(), pick);
+    let body = match fetch(alloc, link, rng, &reader, bin) {
+        Ok(body) => body,
+        Err(fault) => return Err(fault),
+    };
+    let document = match read_document(alloc, &reader, body.as_slice(), records.as_slice(), pick) {
+        Ok(document) => document,
+        Err(fault) => return Err(fault),
+    };
+    let Ok(hits) = with_titles(alloc, shown, records.as_slice()) else {
+        return Err(SearchFault::OutOfMemory);
+    };
+    conclude(
+        placing,
+        Found {
+            hits,
+            unknown: published.unknown,
+            document,
+        },
+    )
+}
+
+/// Searches a library over a link: the hits by score with their titles, the query's unknown terms,
+/// and the document of the pick-th hit.
+///
+/// The order of work: the keywords; the published parameters and their test; secret and keys are
+/// drawn; the exchanges for keys, scores, records and the document. Where the hits can't be placed,
+/// the last two rounds are made with rows and a bin that nobody needs, and then that is answered; so
+/// is the document's round where the pick is past the hits.
+pub fn search<K: Link, R: Rng>(
+    alloc: Global,
+    link: &mut K,
+    rng: &mut R,
+    query: &str,
+    pick: u32,
+) -> Result<Found, SearchFault>
+    requires pick { (1 ≤ pick) × (pick ≤ 64) }
+    requires ready { K.is_ready link.old ≡ true }
+    // Over exchanges that are honest to the library of a corpus: the plain answer exactly where its hits can be placed.
+    ensures plain { (es : List Exchange) → made (K.exchanges link.old) (K.exchanges link.new) ≡ Some es
+        → (documents : List Document) (settings : Settings) (l : Parts) (held : Option (List ℕ)) → IsLibraryFor documents settings l → AreHonest l held es
+        → AnswersPlainly documents settings l (terms query.now) pick result }
+    // Over any exchanges: number, order and lengths of the requests follow the published parameters.
+    ensures planned { (es : List Exchange) → made (K.exchanges link.old) (K.exchanges link.new) ≡ Some es → FollowsPlan es }
+    ensures whole { (es : List Exchange) → made (K.exchanges link.old) (K.exchanges link.new) ≡ Some es → IsAnswered result → IsWholePlan es }
+    // What is answered is read from the exchanges, and each refusal has its cause there.
+    ensures read { (es : List Exchange) → made (K.exchanges link.old) (K.exchanges link.new) ≡ Some es
+        → IfOk result (IsRead (record { query = terms query.now; pick = pick; stream = R.stream rng.old; before = K.faults link.old; now = K.faults link.new; last_failed = K.last_failed link.new }) es) }
+    ensures refused { (es : List Exchange) → made (K.exchanges link.old) (K.exchanges link.new) ≡ Some es
+        → IfErr result (IsCause (record { query = terms query.now; pick = pick; stream = R.stream rng.old; before = K.faults link.old; now = K.faults link.new; last_failed = K.last_failed link.new }) es) }
+    ensures untold { IfErr result (IsCauseUntold (record { query = terms query.now; pick = pick; stream = R.stream rng.old; before = K.faults link.old; now = K.faults link.new; last_failed = K.last_failed link.new })) }
+    // The requests are the drawn ones.
+    ensures asked { (es : List Exchange) → made (K.exchanges link.old) (K.exchanges link.new) ≡ Some es
+        → (s : Numbers) (ts : List (List ℕ)) → Publishes es s ts → test_of s ≡ Ok s
+        → Asks (record { query = terms query.now; pick = pick; stream = R.stream rng.old; before = K.faults link.old; now = K.faults link.new; last_failed = K.last_failed link.new }) es s ts result (R.stream rng.new) }
+    // When one round follows another.
+    ensures goes_on { (es : List Exchange) → made (K.exchanges link.old) (K.exchanges link.new) ≡ Some es → GoesOn (record { query = terms query.now; pick = pick; stream = R.stream rng.old; before = K.faults link.old; now = K.faults link.new; last_failed = K.last_failed link.new }) es }
+    ensures extends { Extends (K.exchanges link.old) (K.exchanges link.new) }
+    ensures faults { K.faults link.old ≤ K.faults link.new }
+    ensures ready { K.is_ready link.new ≡ true }
+    ensures beside { K.beside link.new ≡ K.beside link.old }
+{
+    conduct(alloc, link, rng, query, pick)
+}
