@@ -107,11 +107,11 @@ not_document e = subst (λ (t : Target). elim t as (λ _. Type 0) [ targets_of.P
 no_err : {A : Type 0} {x : A} (fault : SearchFault) → Ok x ≡ Err fault → ⊥
 no_err {A} fault e = subst (λ (r : Result A SearchFault). elim r as (λ _. Type 0) [ Ok y ↦ Unit {0} | Err f ↦ ⊥ ]) e tt
 
-value_or : {A : Type 0} → Result A SearchFault → A → A
+abbrev value_or : {A : Type 0} → Result A SearchFault → A → A
 value_or (Ok x) d = x
 value_or (Err e) d = d
 
-ok-value : {A : Type 0} {x y : A} → Ok {A = A} {B = SearchFault} x ≡ Ok y → x ≡ y
+ok-value : {A : Type 0} {x y : A} → ◌≡◌ {A = Result A SearchFault} (Ok x) (Ok y) → x ≡ y
 ok-value {A} {x} e = ap (λ r. value_or r x) e
 
 -- memory is wanting before records are asked for

@@ -122,12 +122,13 @@ fn conduct<K: Link, R: Rng>(
     let Ok(spots) = places(alloc, shape, shown, placed) else {
         return Err(SearchFault::OutOfMemory);
     };
-    let rows = match gather(alloc, link, rng, &reader, &spots) {
+    let asked = spots.as_slice();
+    let rows = match gather(alloc, link, rng, &reader, asked) {
         Ok(rows) => rows,
         Err(fault) => return Err(fault),
     };
     let body = rows.as_slice();
-    let records = match read_records(alloc, &reader, body, shown, placed, &spots) {
+    let records = match read_records(alloc, &reader, body, shown, placed, asked) {
         Ok(records) => records,
         Err(fault) => return Err(fault),
     };
