@@ -1,5 +1,5 @@
 -- The round of scores, from its exchange.
-use Rattle.std.proofs.Common.{◌≡◌, ℕ, ◌^◌, ◌*◌, ◌≤◌, inr, ap, ◌∙◌, arith, ℤ, List, length, Option}
+use Rattle.std.proofs.Common.{◌≡◌, ℕ, ◌*◌, ◌≤◌, inr, ap, subst, ◌∙◌, arith, ℤ, List, length, Option}
 use Rattle.std.proofs.lemmas.List.{length-take}
 use Rattle.std.proofs.lemmas.List.FromFn.{length-map-range_with_len}
 use Rattle.co_link.specs.declared.messages.Request.{Request}
@@ -22,6 +22,9 @@ use Rattle.co_client.proofs.Spelled.{spelled-long}
 -- want of memory behind the exchange
 pub memory-round : (size : ℕ) (was now : Option (List Exchange)) (r : Request) (body : List ℕ) → Comes was now r (reply_with 200 body) → RoundFails size was now r OutOfMemory
 memory-round size was now r body c = inr (record { reply = reply_with 200 body; comes = c })
+
+pub spelled-same : (n m count many : ℕ) (xs ys : List ℕ) → n ≡ m → count ≡ many → xs ≡ ys → AreSpelled n count xs → AreSpelled m many ys
+spelled-same n m count many xs ys a b e h = subst (λ (zs : List ℕ). AreSpelled m many zs) e (subst (λ (k : ℕ). AreSpelled m k xs) b (subst (λ (k : ℕ). AreSpelled k count xs) a h))
 
 pub ranking-few : (most : ℕ) (scores : List ℕ) → length (ranking most scores) ≤ most
 unfolding ranking

@@ -1,4 +1,4 @@
-use Rattle.std.proofs.Common.{◌≡◌, ℕ, ◌<◌, ◌∙◌, refl, sym, ap, subst, List, [], ◌∷◌, ◌++◌, get_or, Option, None}
+use Rattle.std.proofs.Common.{◌≡◌, ℕ, ◌<◌, ◌∙◌, sym, ap, subst, arith, List, [], ◌∷◌, ◌++◌, get_or, Option, None}
 use Rattle.std.specs.Prelude.{All}
 use Rattle.std.proofs.lemmas.List.Elements.{All-push}
 use Rattle.std.proofs.lemmas.List.FromFn.{map-range_with_len_more}
@@ -14,6 +14,6 @@ loop-bucket-preserved c =
     let is : c.place_of.result ≡ f at = c.place_of.ensures.value ∙ ap (λ (o : Option ℕ). place_asked s c.args.hits.now o at) c.rank_at-rank.ensures in
     let added = c.in_ok-push.ensures.items in
     record {
-      value = added ∙ (λ t. c.loop-bucket.invariant.value t ++ is t ∷ []) ∙ sym (map-range_with_len_more f 0 at at refl);
+      value = added ∙ (λ t. c.loop-bucket.invariant.value t ++ is t ∷ []) ∙ sym (map-range_with_len_more f 0 at at (omega arith));
       rows = subst (λ (ps : List ℕ). All (λ p. record_row s.degree p < s.rows) ps) (sym added) (All-push (λ p. record_row s.degree p < s.rows) c.loop-bucket.places.items c.place_of.result c.loop-bucket.invariant.rows c.place_of.ensures.row);
     }
