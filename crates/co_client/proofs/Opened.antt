@@ -46,6 +46,13 @@ pub at-within : (n : ℕ) (secret : List ℤ) (c : Ciphertext) (r : Result (List
 at-within n secret c (Ok bytes) e h = tt
 at-within n secret c (Err fault) e h = place-below n secret c fault e h
 
+at-length : (n : ℕ) (secret : List ℤ) (c : Ciphertext) (bytes : List ℕ) → ciphertext_degree c ≡ n → IsPayload bytes (opened_reply secret (c ∷ [])) → length bytes ≡ 2 * n
+at-length n secret c bytes e h = omega (arith, h.len, ap length (opened-single secret c), length-decrypted secret c, e)
+
+pub at-long : (n : ℕ) (secret : List ℤ) (c : Ciphertext) (r : Result (List ℕ) ByteFault) → ciphertext_degree c ≡ n → IfOk r (λ bytes. IsPayload bytes (opened_reply secret (c ∷ []))) → IfOk r (λ bytes. length bytes ≡ 2 * n)
+at-long n secret c (Ok bytes) e h = at-length n secret c bytes e h
+at-long n secret c (Err fault) e h = tt
+
 -- ---- parts
 
 pub part-at : (from count : ℕ) (cs : List Ciphertext) (k : ℕ) → k < count → ciphertext_at (part_of from count cs) k ≡ ciphertext_at cs (from + k)

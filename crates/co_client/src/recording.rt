@@ -137,7 +137,8 @@ fn check_record(
     bytes: &[u8],
 ) -> Result<Record, SearchFault>
     requires { length bytes.now ≡ RECORD_BYTES }
-    ensures { IsReadAs result (checked shape.now document (record_of bytes.now)) }
+    ensures read { IsReadAs result (checked shape.now document (record_of bytes.now)) }
+    ensures within { IfOk result (λ record. recordings.is_within_bins shape.now record.place ≡ true) }
 {
     let record = match read_record(alloc, bytes) {
         Ok(record) => record,
@@ -171,8 +172,9 @@ fn read_one(
     requires whole { length body.now ≡ reply_size reader.now.shape targets.Meta }
     requires bucket { bucket < bucket_count reader.now.shape.hits }
     requires place { place ≡ place_in_bucket reader.now.shape bucket document }
-    ensures { (cs : List Ciphertext) (all : ℕ) → SpellsCiphers reader.now.shape.degree all cs body.now
+    ensures read { (cs : List Ciphertext) (all : ℕ) → SpellsCiphers reader.now.shape.degree all cs body.now
         → IsReadAs result (record_read reader.now.shape reader.now.secret cs bucket document) }
+    ensures within { IfOk result (λ record. recordings.is_within_bins reader.now.shape record.place ≡ true) }
 {
     let shape = reader.tested().shape();
     let size = shape.degree();
@@ -224,8 +226,10 @@ pub fn read_records(
     requires placed { HaveBuckets reader.now.shape hits.now placed.now }
     requires few { length hits.now ≤ 64 }
     requires places { places.now ≡ places_asked reader.now.shape hits.now placed.now }
-    ensures { (cs : List Ciphertext) (all : ℕ) → SpellsCiphers reader.now.shape.degree all cs body.now
+    ensures read { (cs : List Ciphertext) (all : ℕ) → SpellsCiphers reader.now.shape.degree all cs body.now
         → IsReadAs result (records_read reader.now.shape reader.now.secret cs placed.now 0 hits.now) }
+    ensures within { IfOk result (λ records. All (λ record. recordings.is_within_bins reader.now.shape record.place ≡ true) records) }
+    ensures long { IfOk result (λ records. length records ≡ length hits.now) }
 {
     let Ok(mut records) = Listed::with_capacity(alloc, hits.len()) else {
         return Err(SearchFault::OutOfMemory);
