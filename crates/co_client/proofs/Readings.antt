@@ -10,16 +10,18 @@ use Rattle.co_bfv.specs.Ciphertexts.{Ciphertext}
 use Rattle.co_bucket.specs.Rows.{records_a_row}
 use Rattle.co_bucket.specs.Bytes.{row_size, record_chunks, record_start}
 use Rattle.co_bucket.proofs.Standing.{chunks}
+use Rattle.co_pack.specs.declared.packing.Place.{Place}
 use Rattle.co_pack.specs.declared.records.Record.{Record}
+use Rattle.co_pack.specs.Records.{record_of}
 use Rattle.co_pir.specs.Openings.{opened_reply}
 use Rattle.co_text.specs.declared.ranks.Ranked.{Ranked}
 use Rattle.co_wire.specs.Bodies.{SpellsCiphers}
-use Rattle.co_rounds.specs.Placing.{no_hit, document_at}
+use Rattle.co_rounds.specs.Placing.{no_hit, document_at, document_start}
 use Rattle.co_rounds.specs.Recording.{bucket_replies}
 use Rattle.co_client.specs.declared.fault.SearchFault.{SearchFault}
 use Rattle.co_client.specs.Faults.{is_want, IsReadAs}
 use Rattle.co_client.specs.Openings.{part_of}
-use Rattle.co_client.specs.Records.{◌>>=◌, opened_bytes, record_read, records_read, bucket_of}
+use Rattle.co_client.specs.Records.{◌>>=◌, opened_bytes, checked, record_read, records_read, bucket_of, text_read}
 
 -- ---- one step after another
 
@@ -35,6 +37,30 @@ then-read r f x result e h = subst (λ w. IsReadAs result w) (sym (ap (λ y. y >
 
 pub part-whole : (n count from : ℕ) (cs : List Ciphertext) (body : List ℕ) → from ≡ 0 → SpellsCiphers n count cs body → part_of from count cs ≡ cs
 part-whole n count from cs body e h = ap (λ (k : ℕ). part_of k count cs) e ∙ take_all count cs (omega (arith, h.ciphers.count_is))
+
+-- the record of a document that was asked of a bucket, where the row is opened to these bytes
+pub record-then : (s shape : Numbers) (secret : List ℤ) (cs : List Ciphertext) (bucket document : ℕ) (row bytes : List ℕ) (result : Result Record SearchFault) → shape ≡ s → bytes ≡ take 256 (drop (document_start s bucket document) row)
+    → opened_bytes Meta bucket (opened_reply secret (bucket_replies s cs bucket)) ≡ Ok row → IsReadAs result (checked shape document (record_of bytes)) → IsReadAs result (record_read s secret cs bucket document)
+unfolding record_read
+record-then s shape secret cs bucket document row bytes result a b opened h =
+    then-read (opened_bytes Meta bucket (opened_reply secret (bucket_replies s cs bucket))) (λ x. checked s document (record_of (take 256 (drop (document_start s bucket document) x)))) row result opened
+    (subst (λ (x : List ℕ). IsReadAs result (checked s document (record_of x))) b (subst (λ (x : Numbers). IsReadAs result (checked x document (record_of bytes))) a h))
+
+pub record-fault : (s : Numbers) (secret : List ℤ) (cs : List Ciphertext) (bucket document : ℕ) (fault : SearchFault)
+    → (is_want fault ≡ false → opened_bytes Meta bucket (opened_reply secret (bucket_replies s cs bucket)) ≡ Err fault) → is_want fault ≡ false → record_read s secret cs bucket document ≡ Err fault
+unfolding record_read
+record-fault s secret cs bucket document fault h =
+    fault-first (opened_bytes Meta bucket (opened_reply secret (bucket_replies s cs bucket))) (λ x. checked s document (record_of (take 256 (drop (document_start s bucket document) x)))) fault h
+
+-- the text at a place, where the bin is opened to these bytes
+pub text-then : (secret : List ℤ) (cs : List Ciphertext) (p : Place) (bin text : List ℕ) → text ≡ take p.length (drop p.offset bin) → opened_bytes Document 0 (opened_reply secret cs) ≡ Ok bin → text_read secret cs p ≡ Ok text
+unfolding text_read
+text-then secret cs p bin text e opened =
+    ap (λ (o : Result (List ℕ) SearchFault). o >>= (λ bytes. Ok (take p.length (drop p.offset bytes)))) opened ∙ ap (λ (x : List ℕ). Ok x) (sym e)
+
+pub text-fault : (secret : List ℤ) (cs : List Ciphertext) (p : Place) (fault : SearchFault) → (is_want fault ≡ false → opened_bytes Document 0 (opened_reply secret cs) ≡ Err fault) → is_want fault ≡ false → text_read secret cs p ≡ Err fault
+unfolding text_read
+text-fault secret cs p fault h = fault-first (opened_bytes Document 0 (opened_reply secret cs)) (λ bytes. Ok (take p.length (drop p.offset bytes))) fault h
 
 -- ---- what is opened of a reply, by the reader's own numbers
 

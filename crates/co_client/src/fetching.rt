@@ -90,7 +90,6 @@ pub fn bin_of(records: &[Record], pick: u32) -> u32
 }
 
 /// The text at a place of the bin that a reply spells.
-#[tactic(auto, unfolding(crate::specs::Records::text_read))]
 fn read_text(
     alloc: Global,
     reader: &Reader,

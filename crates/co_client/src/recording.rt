@@ -160,7 +160,6 @@ fn check_record(
 }
 
 /// The record of a document that stands at a place of a bucket's list.
-#[tactic(auto, unfolding(crate::specs::Records::record_read))]
 fn read_one(
     alloc: Global,
     reader: &Reader,
