@@ -3,10 +3,12 @@ use Rattle.std.proofs.Common.{◌≡◌, ℕ, zero, suc, ◌+◌, ◌*◌, ◌%�
 use Rattle.std.specs.Prelude.{All}
 use Rattle.std.proofs.Math.Nat.{mod-lt}
 use Rattle.std.proofs.lemmas.List.{append-nil, take_all, drop_all, drop_more}
+use Rattle.std.proofs.lemmas.List.FromFn.{length-map-range_with_len, get_or-map-range_with_len}
 use Rattle.co_math.specs.Degrees.{IsDegree}
 use Rattle.co_link.specs.declared.messages.Target.TheVariants.{Meta, Document}
 use Rattle.co_noise.specs.Shapes.{Numbers}
 use Rattle.co_bfv.specs.Ciphertexts.{Ciphertext}
+use Rattle.co_bucket.specs.Lists.{bucket_count}
 use Rattle.co_bucket.specs.Rows.{records_a_row}
 use Rattle.co_bucket.specs.Bytes.{row_size, record_chunks, record_start}
 use Rattle.co_bucket.proofs.Standing.{chunks}
@@ -16,11 +18,12 @@ use Rattle.co_pack.specs.Records.{record_of}
 use Rattle.co_pir.specs.Openings.{opened_reply}
 use Rattle.co_text.specs.declared.ranks.Ranked.{Ranked}
 use Rattle.co_wire.specs.Bodies.{SpellsCiphers}
-use Rattle.co_rounds.specs.Placing.{no_hit, document_at, document_start}
+use Rattle.co_rounds.specs.Placing.{no_hit, document_at, document_start, place_in_bucket}
 use Rattle.co_rounds.specs.Recording.{bucket_replies}
 use Rattle.co_client.specs.declared.fault.SearchFault.{SearchFault}
 use Rattle.co_client.specs.Faults.{is_want, IsReadAs}
 use Rattle.co_client.specs.Openings.{part_of}
+use Rattle.co_client.specs.Placings.{place_asked, places_asked, HaveBuckets}
 use Rattle.co_client.specs.Records.{◌>>=◌, opened_bytes, checked, record_read, records_read, bucket_of, text_read}
 
 -- ---- one step after another
@@ -91,6 +94,20 @@ record-room n p bytes d e =
     let some : 0 < records_a_row n = omega arith in
     let room : 256 * records_a_row n ≤ row_size n = omega arith in
     fits (record_start n p) (records_a_row n) (p % records_a_row n) (record_chunks n) n (row_size n) bytes refl (mod-lt p some) room size e
+
+-- ---- where the record of a placed hit stands
+
+pub places-long : (s : Numbers) (hits : List Ranked) (placed : List (Option ℕ)) (places : List ℕ) → places ≡ places_asked s hits placed → length places ≡ bucket_count s.hits
+places-long s hits placed places e = ap length e ∙ length-map-range_with_len (λ b. place_asked s hits (get_or placed b None) b) 0 (bucket_count s.hits)
+
+pub place-there : (s : Numbers) (hits : List Ranked) (placed : List (Option ℕ)) (places : List ℕ) (rank bucket : ℕ) → HaveBuckets s hits placed → places ≡ places_asked s hits placed → rank < length hits → bucket ≡ bucket_of placed rank
+    → get_or places bucket 0 ≡ place_in_bucket s bucket (document_at hits rank)
+place-there s hits placed places rank bucket h e l is =
+    let within : bucket < bucket_count s.hits = subst (λ (k : ℕ). k < bucket_count s.hits) (sym is) (h.within rank l) in
+    let there : get_or placed bucket None ≡ Some rank = ap (λ (k : ℕ). get_or placed k None) is ∙ h.there rank l in
+    ap (λ (ps : List ℕ). get_or ps bucket 0) e
+    ∙ get_or-map-range_with_len (λ b. place_asked s hits (get_or placed b None) b) 0 (bucket_count s.hits) bucket bucket 0 within (omega arith)
+    ∙ ap (λ (o : Option ℕ). place_asked s hits o bucket) there
 
 -- ---- the records of hits by rank
 

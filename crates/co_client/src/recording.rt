@@ -138,7 +138,7 @@ fn check_record(
 ) -> Result<Record, SearchFault>
     requires { length bytes.now ≡ RECORD_BYTES }
     ensures read { IsReadAs result (checked shape.now document (record_of bytes.now)) }
-    ensures within { IfOk result (λ record. recordings.is_within_bins shape.now record.place ≡ true) }
+    ensures within { IfOk result (λ r. recordings.is_within_bins shape.now r.place ≡ true) }
 {
     let record = match read_record(alloc, bytes) {
         Ok(record) => record,
@@ -173,7 +173,7 @@ fn read_one(
     requires place { place ≡ place_in_bucket reader.now.shape bucket document }
     ensures read { (cs : List Ciphertext) (all : ℕ) → SpellsCiphers reader.now.shape.degree all cs body.now
         → IsReadAs result (record_read reader.now.shape reader.now.secret cs bucket document) }
-    ensures within { IfOk result (λ record. recordings.is_within_bins reader.now.shape record.place ≡ true) }
+    ensures within { IfOk result (λ r. recordings.is_within_bins reader.now.shape r.place ≡ true) }
 {
     let shape = reader.tested().shape();
     let size = shape.degree();
@@ -227,9 +227,10 @@ pub fn read_records(
     requires places { places.now ≡ places_asked reader.now.shape hits.now placed.now }
     ensures read { (cs : List Ciphertext) (all : ℕ) → SpellsCiphers reader.now.shape.degree all cs body.now
         → IsReadAs result (records_read reader.now.shape reader.now.secret cs placed.now 0 hits.now) }
-    ensures within { IfOk result (λ records. All (λ record. recordings.is_within_bins reader.now.shape record.place ≡ true) records) }
+    ensures within { IfOk result (λ records. All (λ r. recordings.is_within_bins reader.now.shape r.place ≡ true) records) }
     ensures long { IfOk result (λ records. length records ≡ length hits.now) }
 {
+    let _ = reader.tested().shape().degree();
     let Ok(mut records) = Listed::with_capacity(alloc, hits.len()) else {
         return Err(SearchFault::OutOfMemory);
     };
