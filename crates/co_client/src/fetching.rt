@@ -72,7 +72,13 @@ pub fn fetch<K: Link, R: Rng>(
         Ok(body) => body,
         Err(fault) => return Err(fault),
     };
-    match check_reply(alloc, degree, shape.chunks(), Target::Document, body.as_slice()) {
+    match check_reply(
+        alloc,
+        degree,
+        shape.chunks(),
+        Target::Document,
+        body.as_slice(),
+    ) {
         Ok(()) => Ok(body),
         Err(fault) => Err(fault),
     }

@@ -185,7 +185,12 @@ fn read_one(
         Err(fault) => return Err(fault),
     };
     let start = RECORD_BYTES * (place % records_a_row(size) as usize);
-    check_record(alloc, shape, document, &row.as_slice()[start..start + RECORD_BYTES])
+    check_record(
+        alloc,
+        shape,
+        document,
+        &row.as_slice()[start..start + RECORD_BYTES],
+    )
 }
 
 /// Whether the hit of a rank is placed here.

@@ -1,4 +1,4 @@
-use Rattle.std.proofs.Common.{◌≡◌, ℕ, ◌+◌, ◌-◌, ◌*◌, ◌<◌, ◌≤◌, ◌∙◌, sym, ap, subst, arith, List, length, take, drop, Ok, Err}
+use Rattle.std.proofs.Common.{◌≡◌, ◌+◌, ◌-◌, ◌∙◌, arith, take, drop, Ok, Err}
 use Rattle.co_client.proofs.Readings.{bin-read, text-then, text-fault}
 use Rattle.co_client.proofs.fetching.read_text.Goals as goal
 

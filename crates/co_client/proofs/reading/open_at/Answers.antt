@@ -1,4 +1,3 @@
-use Rattle.std.proofs.Common.{◌≡◌, ℕ, ◌+◌, ◌*◌, ◌<◌, ◌≤◌, ◌∙◌, arith, List, [], ◌∷◌, length}
 use Rattle.co_bfv.specs.Totals.{ciphertext_at}
 use Rattle.co_client.proofs.Results.{ok-map, err-map}
 use Rattle.co_client.proofs.Opened.{at-bytes, at-whole, at-fault, at-within, at-long}

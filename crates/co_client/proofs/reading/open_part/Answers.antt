@@ -1,4 +1,4 @@
-use Rattle.std.proofs.Common.{◌≡◌, ℕ, ◌*◌, List}
+use Rattle.std.proofs.Common.{◌*◌}
 use Rattle.co_pir.specs.Openings.{opened_reply}
 use Rattle.co_client.specs.Openings.{part_of}
 use Rattle.co_client.proofs.Firsts.{opened-ok, opened-no}

@@ -1,9 +1,9 @@
-use Rattle.std.proofs.Common.{◌≡◌, ℕ, ◌+◌, ◌-◌, ◌*◌, ◌%◌, ◌<◌, ◌≤◌, ◌∙◌, sym, ap, subst, arith, List, length, take, drop, Ok, Err}
+use Rattle.std.proofs.Common.{◌≡◌, ◌+◌, ◌-◌, ◌*◌, ◌%◌, ◌∙◌, ap, arith, take, drop, Ok, Err}
 use Rattle.co_noise.specs.Shapes.{Numbers}
 use Rattle.co_bucket.specs.Rows.{records_a_row}
 use Rattle.co_bucket.specs.Bytes.{record_chunks}
 use Rattle.co_rounds.specs.Placing.{document_start}
-use Rattle.co_client.proofs.Readings.{row-read, record-then, record-fault, record-room}
+use Rattle.co_client.proofs.Readings.{row-read, record-then, record-fault}
 use Rattle.co_client.proofs.recording.read_one.Goals as goal
 
 pub returns-in-Err-clause-read : goal.returns-in-Err-clause-read

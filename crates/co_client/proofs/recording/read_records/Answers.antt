@@ -1,4 +1,4 @@
-use Rattle.std.proofs.Common.{◌≡◌, ℕ, ◌+◌, ◌*◌, ◌<◌, ◌≤◌, ◌∙◌, sym, ap, subst, arith, max, true, List, [], ◌∷◌, ◌++◌, length, length-append}
+use Rattle.std.proofs.Common.{◌≡◌, ℕ, ◌≤◌, ◌∙◌, sym, ap, subst, arith, true, List, [], ◌∷◌, ◌++◌, length, length-append}
 use Rattle.std.specs.Prelude.{All}
 use Rattle.std.proofs.lemmas.List.Elements.{All-push}
 use Rattle.co_pack.specs.declared.records.Record.{Record}
@@ -6,7 +6,7 @@ use Rattle.co_bucket.specs.Lists.{bucket_count}
 use Rattle.co_rounds.specs.Placing.{document_at}
 use Rattle.co_rounds.specs.Recording.{is_within_bins}
 use Rattle.co_client.specs.Records.{record_read}
-use Rattle.co_client.proofs.Readings.{none-read, more-read, all-read, fault-read, places-long, place-there}
+use Rattle.co_client.proofs.Readings.{more-read, all-read, fault-read, places-long, place-there}
 use Rattle.co_client.proofs.recording.read_records.Goals as goal
 
 pub bounds-places-bucket : goal.bounds-places-bucket
