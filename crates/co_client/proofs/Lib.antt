@@ -20,6 +20,9 @@ pub mod Sure_replies
 pub mod Unique
 pub mod Unanswered
 pub mod Placed
+pub mod Unplaced
+pub mod Chained
+pub mod Score_round
 pub mod Told
 pub mod Messages
 pub mod Ends
