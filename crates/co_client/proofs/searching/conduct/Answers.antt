@@ -162,7 +162,7 @@ returns-in-Err-read_records-clause-told g c =
     let placed = placed-at c.shape-shape.result.now c.in-Ok-start.reader.shape c.as_slice-hits.result.now c.in-Ok-rank.ranked c.in-Ok-place_hits.placing c.shown-shown.result.now c.by_bucket-placed.result.now c.in-Ok-places.spots.items c.as_slice-asked.result.now shape_is c.as_slice-hits.ensures c.in-Ok-place_hits.ensures c.shown-shown.ensures c.by_bucket-placed.ensures c.in-Ok-places.ensures.value c.as_slice-asked.ensures.value in
     let gathered = gathers run was (g.K.Link.exchanges c.rank.new.link) (g.K.Link.exchanges c.gather.new.link) c.in-Ok-start.reader c.in-Ok-rank.ranked c.in-Ok-consult.published.unknown (g.R.Rng.stream c.rank.new.rng) c.in-Ok-place_hits.placing c.as_slice-asked.result.now ranked placed c.in-Ok-gather.rows (g.R.Rng.stream c.gather.new.rng) c.in-Ok-gather.ensures.came c.in-Ok-gather.ensures.rest in
     let shown_is : c.shown-shown.result.now ≡ shown_of c.in-Ok-place_hits.placing c.in-Ok-rank.ranked = c.shown-shown.ensures ∙ ap (λ (xs : List Ranked). shown_of c.in-Ok-place_hits.placing xs) c.as_slice-hits.ensures in
-    refused-told run was (g.K.Link.exchanges c.gather.new.link) c.in-Ok-start.reader c.in-Ok-rank.ranked c.in-Ok-consult.published.unknown c.in-Ok-place_hits.placing c.in-Ok-gather.rows (g.R.Rng.stream c.gather.new.rng) gathered c.as_slice-body.result.now c.by_bucket-placed.result.now c.shown-shown.result.now c.in-Err-read_records.fault (g.R.Rng.stream c.gather.new.rng) c.as_slice-body.ensures c.by_bucket-placed.ensures shown_is c.in-Err-read_records.ensures
+    refused-told run was (g.K.Link.exchanges c.gather.new.link) c.in-Ok-start.reader c.in-Ok-rank.ranked c.in-Ok-consult.published.unknown c.in-Ok-place_hits.placing c.in-Ok-gather.rows (g.R.Rng.stream c.gather.new.rng) gathered c.as_slice-body.result.now c.by_bucket-placed.result.now c.shown-shown.result.now c.in-Err-read_records.fault (g.R.Rng.stream c.gather.new.rng) c.as_slice-body.ensures c.by_bucket-placed.ensures shown_is c.in-Err-read_records.ensures.read
 
 pub returns-in-Err-read_records-clause-faults : goal.returns-in-Err-read_records-clause-faults
 returns-in-Err-read_records-clause-faults g c =
@@ -186,7 +186,7 @@ returns-in-Err-fetch-clause-told g c =
     let placed = placed-at c.shape-shape.result.now c.in-Ok-start.reader.shape c.as_slice-hits.result.now c.in-Ok-rank.ranked c.in-Ok-place_hits.placing c.shown-shown.result.now c.by_bucket-placed.result.now c.in-Ok-places.spots.items c.as_slice-asked.result.now shape_is c.as_slice-hits.ensures c.in-Ok-place_hits.ensures c.shown-shown.ensures c.by_bucket-placed.ensures c.in-Ok-places.ensures.value c.as_slice-asked.ensures.value in
     let gathered = gathers run was (g.K.Link.exchanges c.rank.new.link) (g.K.Link.exchanges c.gather.new.link) c.in-Ok-start.reader c.in-Ok-rank.ranked c.in-Ok-consult.published.unknown (g.R.Rng.stream c.rank.new.rng) c.in-Ok-place_hits.placing c.as_slice-asked.result.now ranked placed c.in-Ok-gather.rows (g.R.Rng.stream c.gather.new.rng) c.in-Ok-gather.ensures.came c.in-Ok-gather.ensures.rest in
     let shown_is : c.shown-shown.result.now ≡ shown_of c.in-Ok-place_hits.placing c.in-Ok-rank.ranked = c.shown-shown.ensures ∙ ap (λ (xs : List Ranked). shown_of c.in-Ok-place_hits.placing xs) c.as_slice-hits.ensures in
-    let found = records-found run was (g.K.Link.exchanges c.gather.new.link) c.in-Ok-start.reader c.in-Ok-rank.ranked c.in-Ok-consult.published.unknown c.in-Ok-place_hits.placing c.in-Ok-gather.rows (g.R.Rng.stream c.gather.new.rng) gathered c.as_slice-body.result.now c.by_bucket-placed.result.now c.shown-shown.result.now c.in-Ok-read_records.records c.as_slice-body.ensures c.by_bucket-placed.ensures shown_is c.in-Ok-read_records.ensures in
+    let found = records-found run was (g.K.Link.exchanges c.gather.new.link) c.in-Ok-start.reader c.in-Ok-rank.ranked c.in-Ok-consult.published.unknown c.in-Ok-place_hits.placing c.in-Ok-gather.rows (g.R.Rng.stream c.gather.new.rng) gathered c.as_slice-body.result.now c.by_bucket-placed.result.now c.shown-shown.result.now c.in-Ok-read_records.records c.as_slice-body.ensures c.by_bucket-placed.ensures shown_is c.in-Ok-read_records.ensures.read in
     let bin_is : c.bin_of-bin.result ≡ bin_asked (picked_record c.in-Ok-read_records.records c.args.pick) = c.bin_of-bin.ensures ∙ ap (λ (rs : List Record). bin_asked (picked_record rs c.args.pick)) c.as_slice-read.ensures in
     fetch-told run was (g.K.Link.exchanges c.gather.new.link) c.in-Ok-start.reader c.in-Ok-rank.ranked c.in-Ok-consult.published.unknown c.in-Ok-place_hits.placing c.in-Ok-gather.rows (g.R.Rng.stream c.gather.new.rng) gathered c.in-Ok-read_records.records found (g.K.Link.exchanges c.fetch.new.link) c.bin_of-bin.result (g.K.Link.faults c.gather.new.link) c.in-Err-fetch.fault (g.R.Rng.stream c.fetch.new.rng) bin_is c.in-Err-fetch.ensures.refused c.in-Err-fetch.ensures.cause (omega (arith, c.consult.ensures.cause.later, c.start.ensures.cause.later, c.rank.ensures.cause.later, c.gather.ensures.cause.later))
 
@@ -212,7 +212,7 @@ returns-in-Err-read_document-clause-told g c =
     let placed = placed-at c.shape-shape.result.now c.in-Ok-start.reader.shape c.as_slice-hits.result.now c.in-Ok-rank.ranked c.in-Ok-place_hits.placing c.shown-shown.result.now c.by_bucket-placed.result.now c.in-Ok-places.spots.items c.as_slice-asked.result.now shape_is c.as_slice-hits.ensures c.in-Ok-place_hits.ensures c.shown-shown.ensures c.by_bucket-placed.ensures c.in-Ok-places.ensures.value c.as_slice-asked.ensures.value in
     let gathered = gathers run was (g.K.Link.exchanges c.rank.new.link) (g.K.Link.exchanges c.gather.new.link) c.in-Ok-start.reader c.in-Ok-rank.ranked c.in-Ok-consult.published.unknown (g.R.Rng.stream c.rank.new.rng) c.in-Ok-place_hits.placing c.as_slice-asked.result.now ranked placed c.in-Ok-gather.rows (g.R.Rng.stream c.gather.new.rng) c.in-Ok-gather.ensures.came c.in-Ok-gather.ensures.rest in
     let shown_is : c.shown-shown.result.now ≡ shown_of c.in-Ok-place_hits.placing c.in-Ok-rank.ranked = c.shown-shown.ensures ∙ ap (λ (xs : List Ranked). shown_of c.in-Ok-place_hits.placing xs) c.as_slice-hits.ensures in
-    let found = records-found run was (g.K.Link.exchanges c.gather.new.link) c.in-Ok-start.reader c.in-Ok-rank.ranked c.in-Ok-consult.published.unknown c.in-Ok-place_hits.placing c.in-Ok-gather.rows (g.R.Rng.stream c.gather.new.rng) gathered c.as_slice-body.result.now c.by_bucket-placed.result.now c.shown-shown.result.now c.in-Ok-read_records.records c.as_slice-body.ensures c.by_bucket-placed.ensures shown_is c.in-Ok-read_records.ensures in
+    let found = records-found run was (g.K.Link.exchanges c.gather.new.link) c.in-Ok-start.reader c.in-Ok-rank.ranked c.in-Ok-consult.published.unknown c.in-Ok-place_hits.placing c.in-Ok-gather.rows (g.R.Rng.stream c.gather.new.rng) gathered c.as_slice-body.result.now c.by_bucket-placed.result.now c.shown-shown.result.now c.in-Ok-read_records.records c.as_slice-body.ensures c.by_bucket-placed.ensures shown_is c.in-Ok-read_records.ensures.read in
     let bin_is : c.bin_of-bin.result ≡ bin_asked (picked_record c.in-Ok-read_records.records c.args.pick) = c.bin_of-bin.ensures ∙ ap (λ (rs : List Record). bin_asked (picked_record rs c.args.pick)) c.as_slice-read.ensures in
     let fetched = fetches run was (g.K.Link.exchanges c.gather.new.link) c.in-Ok-start.reader c.in-Ok-rank.ranked c.in-Ok-consult.published.unknown c.in-Ok-place_hits.placing c.in-Ok-gather.rows (g.R.Rng.stream c.gather.new.rng) gathered c.in-Ok-read_records.records found (g.K.Link.exchanges c.fetch.new.link) c.bin_of-bin.result c.in-Ok-fetch.chunks (g.R.Rng.stream c.fetch.new.rng) bin_is c.in-Ok-fetch.ensures.came c.in-Ok-fetch.ensures.rest in
     unread-told run was (g.K.Link.exchanges c.gather.new.link) c.in-Ok-start.reader c.in-Ok-rank.ranked c.in-Ok-consult.published.unknown c.in-Ok-place_hits.placing c.in-Ok-gather.rows (g.R.Rng.stream c.gather.new.rng) gathered c.in-Ok-read_records.records found (g.K.Link.exchanges c.fetch.new.link) c.in-Ok-fetch.chunks (g.R.Rng.stream c.fetch.new.rng) fetched c.as_slice-body-2.result.now c.as_slice-read.result.now c.in-Err-read_document.fault (g.R.Rng.stream c.fetch.new.rng) c.as_slice-body-2.ensures c.as_slice-read.ensures c.in-Err-read_document.ensures
@@ -239,7 +239,7 @@ returns-in_default-with_titles-clause-told g c =
     let placed = placed-at c.shape-shape.result.now c.in-Ok-start.reader.shape c.as_slice-hits.result.now c.in-Ok-rank.ranked c.in-Ok-place_hits.placing c.shown-shown.result.now c.by_bucket-placed.result.now c.in-Ok-places.spots.items c.as_slice-asked.result.now shape_is c.as_slice-hits.ensures c.in-Ok-place_hits.ensures c.shown-shown.ensures c.by_bucket-placed.ensures c.in-Ok-places.ensures.value c.as_slice-asked.ensures.value in
     let gathered = gathers run was (g.K.Link.exchanges c.rank.new.link) (g.K.Link.exchanges c.gather.new.link) c.in-Ok-start.reader c.in-Ok-rank.ranked c.in-Ok-consult.published.unknown (g.R.Rng.stream c.rank.new.rng) c.in-Ok-place_hits.placing c.as_slice-asked.result.now ranked placed c.in-Ok-gather.rows (g.R.Rng.stream c.gather.new.rng) c.in-Ok-gather.ensures.came c.in-Ok-gather.ensures.rest in
     let shown_is : c.shown-shown.result.now ≡ shown_of c.in-Ok-place_hits.placing c.in-Ok-rank.ranked = c.shown-shown.ensures ∙ ap (λ (xs : List Ranked). shown_of c.in-Ok-place_hits.placing xs) c.as_slice-hits.ensures in
-    let found = records-found run was (g.K.Link.exchanges c.gather.new.link) c.in-Ok-start.reader c.in-Ok-rank.ranked c.in-Ok-consult.published.unknown c.in-Ok-place_hits.placing c.in-Ok-gather.rows (g.R.Rng.stream c.gather.new.rng) gathered c.as_slice-body.result.now c.by_bucket-placed.result.now c.shown-shown.result.now c.in-Ok-read_records.records c.as_slice-body.ensures c.by_bucket-placed.ensures shown_is c.in-Ok-read_records.ensures in
+    let found = records-found run was (g.K.Link.exchanges c.gather.new.link) c.in-Ok-start.reader c.in-Ok-rank.ranked c.in-Ok-consult.published.unknown c.in-Ok-place_hits.placing c.in-Ok-gather.rows (g.R.Rng.stream c.gather.new.rng) gathered c.as_slice-body.result.now c.by_bucket-placed.result.now c.shown-shown.result.now c.in-Ok-read_records.records c.as_slice-body.ensures c.by_bucket-placed.ensures shown_is c.in-Ok-read_records.ensures.read in
     let bin_is : c.bin_of-bin.result ≡ bin_asked (picked_record c.in-Ok-read_records.records c.args.pick) = c.bin_of-bin.ensures ∙ ap (λ (rs : List Record). bin_asked (picked_record rs c.args.pick)) c.as_slice-read.ensures in
     let fetched = fetches run was (g.K.Link.exchanges c.gather.new.link) c.in-Ok-start.reader c.in-Ok-rank.ranked c.in-Ok-consult.published.unknown c.in-Ok-place_hits.placing c.in-Ok-gather.rows (g.R.Rng.stream c.gather.new.rng) gathered c.in-Ok-read_records.records found (g.K.Link.exchanges c.fetch.new.link) c.bin_of-bin.result c.in-Ok-fetch.chunks (g.R.Rng.stream c.fetch.new.rng) bin_is c.in-Ok-fetch.ensures.came c.in-Ok-fetch.ensures.rest in
     no-memory-told run was (g.K.Link.exchanges c.gather.new.link) c.in-Ok-start.reader c.in-Ok-rank.ranked c.in-Ok-consult.published.unknown c.in-Ok-place_hits.placing c.in-Ok-gather.rows (g.R.Rng.stream c.gather.new.rng) gathered c.in-Ok-read_records.records found (g.K.Link.exchanges c.fetch.new.link) c.in-Ok-fetch.chunks (g.R.Rng.stream c.fetch.new.rng) fetched (g.R.Rng.stream c.fetch.new.rng)
@@ -266,7 +266,7 @@ returns-clause-told g c =
     let placed = placed-at c.shape-shape.result.now c.in-Ok-start.reader.shape c.as_slice-hits.result.now c.in-Ok-rank.ranked c.in-Ok-place_hits.placing c.shown-shown.result.now c.by_bucket-placed.result.now c.in-Ok-places.spots.items c.as_slice-asked.result.now shape_is c.as_slice-hits.ensures c.in-Ok-place_hits.ensures c.shown-shown.ensures c.by_bucket-placed.ensures c.in-Ok-places.ensures.value c.as_slice-asked.ensures.value in
     let gathered = gathers run was (g.K.Link.exchanges c.rank.new.link) (g.K.Link.exchanges c.gather.new.link) c.in-Ok-start.reader c.in-Ok-rank.ranked c.in-Ok-consult.published.unknown (g.R.Rng.stream c.rank.new.rng) c.in-Ok-place_hits.placing c.as_slice-asked.result.now ranked placed c.in-Ok-gather.rows (g.R.Rng.stream c.gather.new.rng) c.in-Ok-gather.ensures.came c.in-Ok-gather.ensures.rest in
     let shown_is : c.shown-shown.result.now ≡ shown_of c.in-Ok-place_hits.placing c.in-Ok-rank.ranked = c.shown-shown.ensures ∙ ap (λ (xs : List Ranked). shown_of c.in-Ok-place_hits.placing xs) c.as_slice-hits.ensures in
-    let found = records-found run was (g.K.Link.exchanges c.gather.new.link) c.in-Ok-start.reader c.in-Ok-rank.ranked c.in-Ok-consult.published.unknown c.in-Ok-place_hits.placing c.in-Ok-gather.rows (g.R.Rng.stream c.gather.new.rng) gathered c.as_slice-body.result.now c.by_bucket-placed.result.now c.shown-shown.result.now c.in-Ok-read_records.records c.as_slice-body.ensures c.by_bucket-placed.ensures shown_is c.in-Ok-read_records.ensures in
+    let found = records-found run was (g.K.Link.exchanges c.gather.new.link) c.in-Ok-start.reader c.in-Ok-rank.ranked c.in-Ok-consult.published.unknown c.in-Ok-place_hits.placing c.in-Ok-gather.rows (g.R.Rng.stream c.gather.new.rng) gathered c.as_slice-body.result.now c.by_bucket-placed.result.now c.shown-shown.result.now c.in-Ok-read_records.records c.as_slice-body.ensures c.by_bucket-placed.ensures shown_is c.in-Ok-read_records.ensures.read in
     let bin_is : c.bin_of-bin.result ≡ bin_asked (picked_record c.in-Ok-read_records.records c.args.pick) = c.bin_of-bin.ensures ∙ ap (λ (rs : List Record). bin_asked (picked_record rs c.args.pick)) c.as_slice-read.ensures in
     let fetched = fetches run was (g.K.Link.exchanges c.gather.new.link) c.in-Ok-start.reader c.in-Ok-rank.ranked c.in-Ok-consult.published.unknown c.in-Ok-place_hits.placing c.in-Ok-gather.rows (g.R.Rng.stream c.gather.new.rng) gathered c.in-Ok-read_records.records found (g.K.Link.exchanges c.fetch.new.link) c.bin_of-bin.result c.in-Ok-fetch.chunks (g.R.Rng.stream c.fetch.new.rng) bin_is c.in-Ok-fetch.ensures.came c.in-Ok-fetch.ensures.rest in
     let answer : Found = record { hits = c.in-Ok-with_titles.titled; unknown = c.in-Ok-consult.published.unknown; document = c.in-Ok-read_document.document } in
@@ -360,7 +360,7 @@ fetch-requires-clause-bin g c =
     let placed = placed-at c.shape-shape.result.now c.in-Ok-start.reader.shape c.as_slice-hits.result.now c.in-Ok-rank.ranked c.in-Ok-place_hits.placing c.shown-shown.result.now c.by_bucket-placed.result.now c.in-Ok-places.spots.items c.as_slice-asked.result.now shape_is c.as_slice-hits.ensures c.in-Ok-place_hits.ensures c.shown-shown.ensures c.by_bucket-placed.ensures c.in-Ok-places.ensures.value c.as_slice-asked.ensures.value in
     let gathered = gathers run was (g.K.Link.exchanges c.rank.new.link) (g.K.Link.exchanges c.gather.new.link) c.in-Ok-start.reader c.in-Ok-rank.ranked c.in-Ok-consult.published.unknown (g.R.Rng.stream c.rank.new.rng) c.in-Ok-place_hits.placing c.as_slice-asked.result.now ranked placed c.in-Ok-gather.rows (g.R.Rng.stream c.gather.new.rng) c.in-Ok-gather.ensures.came c.in-Ok-gather.ensures.rest in
     let shown_is : c.shown-shown.result.now ≡ shown_of c.in-Ok-place_hits.placing c.in-Ok-rank.ranked = c.shown-shown.ensures ∙ ap (λ (xs : List Ranked). shown_of c.in-Ok-place_hits.placing xs) c.as_slice-hits.ensures in
-    let found = records-found run was (g.K.Link.exchanges c.gather.new.link) c.in-Ok-start.reader c.in-Ok-rank.ranked c.in-Ok-consult.published.unknown c.in-Ok-place_hits.placing c.in-Ok-gather.rows (g.R.Rng.stream c.gather.new.rng) gathered c.as_slice-body.result.now c.by_bucket-placed.result.now c.shown-shown.result.now c.in-Ok-read_records.records c.as_slice-body.ensures c.by_bucket-placed.ensures shown_is c.in-Ok-read_records.ensures in
+    let found = records-found run was (g.K.Link.exchanges c.gather.new.link) c.in-Ok-start.reader c.in-Ok-rank.ranked c.in-Ok-consult.published.unknown c.in-Ok-place_hits.placing c.in-Ok-gather.rows (g.R.Rng.stream c.gather.new.rng) gathered c.as_slice-body.result.now c.by_bucket-placed.result.now c.shown-shown.result.now c.in-Ok-read_records.records c.as_slice-body.ensures c.by_bucket-placed.ensures shown_is c.in-Ok-read_records.ensures.read in
     let checked = records-checked run was (g.K.Link.exchanges c.gather.new.link) c.in-Ok-start.reader c.in-Ok-rank.ranked c.in-Ok-consult.published.unknown c.in-Ok-place_hits.placing c.in-Ok-gather.rows (g.R.Rng.stream c.gather.new.rng) gathered c.in-Ok-read_records.records found in
     let bin_is : c.bin_of-bin.result ≡ bin_asked (picked_record c.in-Ok-read_records.records c.args.pick) = c.bin_of-bin.ensures ∙ ap (λ (rs : List Record). bin_asked (picked_record rs c.args.pick)) c.as_slice-read.ensures in
     let r = has-ranges run was (g.K.Link.exchanges c.rank.new.link) c.in-Ok-start.reader c.in-Ok-rank.ranked c.in-Ok-consult.published.unknown (g.R.Rng.stream c.rank.new.rng) ranked in
@@ -380,7 +380,7 @@ read_document-requires-clause-whole g c =
     let placed = placed-at c.shape-shape.result.now c.in-Ok-start.reader.shape c.as_slice-hits.result.now c.in-Ok-rank.ranked c.in-Ok-place_hits.placing c.shown-shown.result.now c.by_bucket-placed.result.now c.in-Ok-places.spots.items c.as_slice-asked.result.now shape_is c.as_slice-hits.ensures c.in-Ok-place_hits.ensures c.shown-shown.ensures c.by_bucket-placed.ensures c.in-Ok-places.ensures.value c.as_slice-asked.ensures.value in
     let gathered = gathers run was (g.K.Link.exchanges c.rank.new.link) (g.K.Link.exchanges c.gather.new.link) c.in-Ok-start.reader c.in-Ok-rank.ranked c.in-Ok-consult.published.unknown (g.R.Rng.stream c.rank.new.rng) c.in-Ok-place_hits.placing c.as_slice-asked.result.now ranked placed c.in-Ok-gather.rows (g.R.Rng.stream c.gather.new.rng) c.in-Ok-gather.ensures.came c.in-Ok-gather.ensures.rest in
     let shown_is : c.shown-shown.result.now ≡ shown_of c.in-Ok-place_hits.placing c.in-Ok-rank.ranked = c.shown-shown.ensures ∙ ap (λ (xs : List Ranked). shown_of c.in-Ok-place_hits.placing xs) c.as_slice-hits.ensures in
-    let found = records-found run was (g.K.Link.exchanges c.gather.new.link) c.in-Ok-start.reader c.in-Ok-rank.ranked c.in-Ok-consult.published.unknown c.in-Ok-place_hits.placing c.in-Ok-gather.rows (g.R.Rng.stream c.gather.new.rng) gathered c.as_slice-body.result.now c.by_bucket-placed.result.now c.shown-shown.result.now c.in-Ok-read_records.records c.as_slice-body.ensures c.by_bucket-placed.ensures shown_is c.in-Ok-read_records.ensures in
+    let found = records-found run was (g.K.Link.exchanges c.gather.new.link) c.in-Ok-start.reader c.in-Ok-rank.ranked c.in-Ok-consult.published.unknown c.in-Ok-place_hits.placing c.in-Ok-gather.rows (g.R.Rng.stream c.gather.new.rng) gathered c.as_slice-body.result.now c.by_bucket-placed.result.now c.shown-shown.result.now c.in-Ok-read_records.records c.as_slice-body.ensures c.by_bucket-placed.ensures shown_is c.in-Ok-read_records.ensures.read in
     let bin_is : c.bin_of-bin.result ≡ bin_asked (picked_record c.in-Ok-read_records.records c.args.pick) = c.bin_of-bin.ensures ∙ ap (λ (rs : List Record). bin_asked (picked_record rs c.args.pick)) c.as_slice-read.ensures in
     let fetched = fetches run was (g.K.Link.exchanges c.gather.new.link) c.in-Ok-start.reader c.in-Ok-rank.ranked c.in-Ok-consult.published.unknown c.in-Ok-place_hits.placing c.in-Ok-gather.rows (g.R.Rng.stream c.gather.new.rng) gathered c.in-Ok-read_records.records found (g.K.Link.exchanges c.fetch.new.link) c.bin_of-bin.result c.in-Ok-fetch.chunks (g.R.Rng.stream c.fetch.new.rng) bin_is c.in-Ok-fetch.ensures.came c.in-Ok-fetch.ensures.rest in
     ap (λ (xs : List ℕ). length xs) c.as_slice-body-2.ensures ∙ fetched-long run was (g.K.Link.exchanges c.gather.new.link) c.in-Ok-start.reader c.in-Ok-rank.ranked c.in-Ok-consult.published.unknown c.in-Ok-place_hits.placing c.in-Ok-gather.rows (g.R.Rng.stream c.gather.new.rng) gathered c.in-Ok-read_records.records found (g.K.Link.exchanges c.fetch.new.link) c.in-Ok-fetch.chunks (g.R.Rng.stream c.fetch.new.rng) fetched
@@ -395,7 +395,7 @@ read_document-requires-clause-within g c =
     let placed = placed-at c.shape-shape.result.now c.in-Ok-start.reader.shape c.as_slice-hits.result.now c.in-Ok-rank.ranked c.in-Ok-place_hits.placing c.shown-shown.result.now c.by_bucket-placed.result.now c.in-Ok-places.spots.items c.as_slice-asked.result.now shape_is c.as_slice-hits.ensures c.in-Ok-place_hits.ensures c.shown-shown.ensures c.by_bucket-placed.ensures c.in-Ok-places.ensures.value c.as_slice-asked.ensures.value in
     let gathered = gathers run was (g.K.Link.exchanges c.rank.new.link) (g.K.Link.exchanges c.gather.new.link) c.in-Ok-start.reader c.in-Ok-rank.ranked c.in-Ok-consult.published.unknown (g.R.Rng.stream c.rank.new.rng) c.in-Ok-place_hits.placing c.as_slice-asked.result.now ranked placed c.in-Ok-gather.rows (g.R.Rng.stream c.gather.new.rng) c.in-Ok-gather.ensures.came c.in-Ok-gather.ensures.rest in
     let shown_is : c.shown-shown.result.now ≡ shown_of c.in-Ok-place_hits.placing c.in-Ok-rank.ranked = c.shown-shown.ensures ∙ ap (λ (xs : List Ranked). shown_of c.in-Ok-place_hits.placing xs) c.as_slice-hits.ensures in
-    let found = records-found run was (g.K.Link.exchanges c.gather.new.link) c.in-Ok-start.reader c.in-Ok-rank.ranked c.in-Ok-consult.published.unknown c.in-Ok-place_hits.placing c.in-Ok-gather.rows (g.R.Rng.stream c.gather.new.rng) gathered c.as_slice-body.result.now c.by_bucket-placed.result.now c.shown-shown.result.now c.in-Ok-read_records.records c.as_slice-body.ensures c.by_bucket-placed.ensures shown_is c.in-Ok-read_records.ensures in
+    let found = records-found run was (g.K.Link.exchanges c.gather.new.link) c.in-Ok-start.reader c.in-Ok-rank.ranked c.in-Ok-consult.published.unknown c.in-Ok-place_hits.placing c.in-Ok-gather.rows (g.R.Rng.stream c.gather.new.rng) gathered c.as_slice-body.result.now c.by_bucket-placed.result.now c.shown-shown.result.now c.in-Ok-read_records.records c.as_slice-body.ensures c.by_bucket-placed.ensures shown_is c.in-Ok-read_records.ensures.read in
     let checked = records-checked run was (g.K.Link.exchanges c.gather.new.link) c.in-Ok-start.reader c.in-Ok-rank.ranked c.in-Ok-consult.published.unknown c.in-Ok-place_hits.placing c.in-Ok-gather.rows (g.R.Rng.stream c.gather.new.rng) gathered c.in-Ok-read_records.records found in
     subst (λ (rs : List Record). All (λ r. is_within_bins c.in-Ok-start.reader.shape r.place ≡ true) rs) (sym c.as_slice-read.ensures) checked.within
 
@@ -409,6 +409,6 @@ with_titles-requires g c =
     let placed = placed-at c.shape-shape.result.now c.in-Ok-start.reader.shape c.as_slice-hits.result.now c.in-Ok-rank.ranked c.in-Ok-place_hits.placing c.shown-shown.result.now c.by_bucket-placed.result.now c.in-Ok-places.spots.items c.as_slice-asked.result.now shape_is c.as_slice-hits.ensures c.in-Ok-place_hits.ensures c.shown-shown.ensures c.by_bucket-placed.ensures c.in-Ok-places.ensures.value c.as_slice-asked.ensures.value in
     let gathered = gathers run was (g.K.Link.exchanges c.rank.new.link) (g.K.Link.exchanges c.gather.new.link) c.in-Ok-start.reader c.in-Ok-rank.ranked c.in-Ok-consult.published.unknown (g.R.Rng.stream c.rank.new.rng) c.in-Ok-place_hits.placing c.as_slice-asked.result.now ranked placed c.in-Ok-gather.rows (g.R.Rng.stream c.gather.new.rng) c.in-Ok-gather.ensures.came c.in-Ok-gather.ensures.rest in
     let shown_is : c.shown-shown.result.now ≡ shown_of c.in-Ok-place_hits.placing c.in-Ok-rank.ranked = c.shown-shown.ensures ∙ ap (λ (xs : List Ranked). shown_of c.in-Ok-place_hits.placing xs) c.as_slice-hits.ensures in
-    let found = records-found run was (g.K.Link.exchanges c.gather.new.link) c.in-Ok-start.reader c.in-Ok-rank.ranked c.in-Ok-consult.published.unknown c.in-Ok-place_hits.placing c.in-Ok-gather.rows (g.R.Rng.stream c.gather.new.rng) gathered c.as_slice-body.result.now c.by_bucket-placed.result.now c.shown-shown.result.now c.in-Ok-read_records.records c.as_slice-body.ensures c.by_bucket-placed.ensures shown_is c.in-Ok-read_records.ensures in
+    let found = records-found run was (g.K.Link.exchanges c.gather.new.link) c.in-Ok-start.reader c.in-Ok-rank.ranked c.in-Ok-consult.published.unknown c.in-Ok-place_hits.placing c.in-Ok-gather.rows (g.R.Rng.stream c.gather.new.rng) gathered c.as_slice-body.result.now c.by_bucket-placed.result.now c.shown-shown.result.now c.in-Ok-read_records.records c.as_slice-body.ensures c.by_bucket-placed.ensures shown_is c.in-Ok-read_records.ensures.read in
     let checked = records-checked run was (g.K.Link.exchanges c.gather.new.link) c.in-Ok-start.reader c.in-Ok-rank.ranked c.in-Ok-consult.published.unknown c.in-Ok-place_hits.placing c.in-Ok-gather.rows (g.R.Rng.stream c.gather.new.rng) gathered c.in-Ok-read_records.records found in
     ap (λ (rs : List Record). length rs) c.as_slice-read.ensures ∙ checked.each_hit ∙ ap (λ (xs : List Ranked). length xs) (sym shown_is)
