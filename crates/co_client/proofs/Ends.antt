@@ -41,7 +41,7 @@ use Rattle.co_client.specs.Published.{public_request, Consults, PublicFails}
 use Rattle.co_client.specs.Rounds.{Comes, RoundFails, LinkFails, keys_request, queries_request}
 use Rattle.co_client.proofs.Messages.{has-messages}
 use Rattle.co_client.proofs.Trails.{makes-none, makes-one, makes-same, trail-asks, score_request, record_request, bin_request, IsTrail}
-use Rattle.co_client.proofs.Told.{AreRowsOf, early-rows, tells-here, round-told}
+use Rattle.co_client.proofs.Told.{for-few, AreRowsOf, early-rows, tells-here, round-told}
 
 -- ---- before any request
 
@@ -56,6 +56,7 @@ many-cause run (TooManyKeywords found) h = record {
   refused = (h.0, h.1, refl);
   asked = λ s ts p t. absurd (no_first p.first p.others p.are);
   goes = record { few = λ l. absurd (omega arith); tested = λ s ts p l. absurd (omega arith); taken = λ number e at l. absurd (omega arith) };
+  few = tt;
 }
 many-cause run OutOfMemory h = record {
   follows = refl;
@@ -64,6 +65,7 @@ many-cause run OutOfMemory h = record {
   refused = tt;
   asked = λ s ts p t. absurd (no_first p.first p.others p.are);
   goes = record { few = λ l. absurd (omega arith); tested = λ s ts p l. absurd (omega arith); taken = λ number e at l. absurd (omega arith) };
+  few = tt;
 }
 many-cause run (BadPublic place) h = absurd h
 many-cause run (Test fault) h = absurd h
@@ -182,6 +184,7 @@ public-tells run e fault left is few open_end cause known = record {
         left_is = λ a. absurd (open_end a);
       };
   goes = record { few = λ l. few; tested = λ s ts p l. absurd (omega arith); taken = λ number x at l. absurd (omega arith) };
+  few = for-few (length (distinct run.query)) few (Err fault);
 }
 
 no_result : {A : Type 0} (x : A) (place : ℕ) → Err place ≡ Ok x → ⊥
@@ -230,6 +233,7 @@ public-told run was now Link left few h l =
         };
         asked = λ s ts p t. absurd (no_first p.first p.others p.are);
         goes = record { few = λ u. absurd (omega arith); tested = λ s ts p u. absurd (omega arith); taken = λ number e at u. absurd (omega arith) };
+        few = few;
       };
     }
 public-told run was now OutOfMemory left few (inl h) l = record {
@@ -242,6 +246,7 @@ public-told run was now OutOfMemory left few (inl h) l = record {
     refused = tt;
     asked = λ s ts p t. absurd (no_first p.first p.others p.are);
     goes = record { few = λ u. absurd (omega arith); tested = λ s ts p u. absurd (omega arith); taken = λ number e at u. absurd (omega arith) };
+    few = tt;
   };
 }
 public-told run was now OutOfMemory left few (inr h) l = record {
