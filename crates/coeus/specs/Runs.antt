@@ -35,7 +35,7 @@ Cause (SpokenPlain p) was is refusal = PlainCause p was.files is.files refusal
 Cause (SpokenImport i) was is refusal = ImportCause i was.files is.files refusal
 Cause (SpokenShape s) was is (refusals.Test fault) = test_of s ≡ Err fault
 Cause (SpokenShape s) was is refusal = refusal ≡ refusals.Memory
-Cause (SpokenLocal p) was is refusal = LocalCause p was is refusal
+Cause (SpokenLocal p) was is refusal = LocalCause p was.files is.files was.random is.random refusal
 Cause SpokenWrong was is refusal = refusal ≡ refusals.Words
 
 -- the files that it changes: those of `import` are at most its library, any other command has none
