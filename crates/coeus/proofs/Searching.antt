@@ -94,7 +94,7 @@ searched_over p library was is result text before now same new good honest plann
     let reads = subst (λ (t : List ℕ). IfOk result (IsRead (for_text t p.pick was) now)) same (read now all) in
     let refuses = subst (λ (t : List ℕ). IfErr result (IsCause (for_text t p.pick was) now)) same (refused now all) in
     let asks : (s : Numbers) (ts : List (List ℕ)) → Publishes now s ts → test_of s ≡ Ok s → Asks (search_for p was) now s ts result is =
-        λ s ts publishes passes. subst (λ (t : List ℕ). Asks (for_text t p.pick was) now s ts result is) same (asked now all s ts publishes passes) in
+    λ s ts publishes passes. subst (λ (t : List ℕ). Asks (for_text t p.pick was) now s ts result is) same (asked now all s ts publishes passes) in
     record {
       exchanges = now;
       honest = honest;
