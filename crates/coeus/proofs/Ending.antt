@@ -1,6 +1,6 @@
 -- How a command ends, by the causes of its steps.
-use Rattle.std.proofs.Common.{◌≡◌, ◌≢◌, ◌⊎◌, ℕ, List, Option, Some, None, Ok, Err, refl, sym, ap, subst, ◌∙◌, inl, inr, arith}
-use Rattle.std.specs.Prelude.{Result, IsErr, IsOk}
+use Rattle.std.proofs.Common.{◌≡◌, ◌≢◌, ◌≤◌, ◌⊎◌, ℕ, List, Option, Some, None, Ok, Err, refl, sym, ap, subst, ◌∙◌, inl, inr, arith}
+use Rattle.std.specs.Prelude.{Result, IsOk, Bool, true, false, ◌==◌, if◌then◌else◌}
 use mathlib.Core.Bool.{true≢false}
 use Rattle.co_link.specs.Causes.{Rose}
 use Rattle.co_link.specs.Files.{Folder, file_at, IsLonger}
@@ -18,48 +18,52 @@ use Rattle.co_library.specs.declared.settings.Settings.{Settings}
 use Rattle.co_library.specs.declared.publishing.PublishFault.{PublishFault}
 use Rattle.co_library.specs.declared.publishing.PublishFault.TheVariants as publishing
 use Rattle.co_library.proofs.OneAnswer.{no_refusal}
+use Rattle.co_client.specs.declared.fault.SearchFault.{SearchFault}
+use Rattle.co_client.specs.declared.fault.SearchFault.TheVariants as searching
+use Rattle.coeus.proofs.Outcomes.{differ, same_value}
+use Rattle.coeus.proofs.Searching.{local_due, local_placed}
 use Rattle.coeus.specs.declared.limits.TheConstants.{MAX_CORPUS}
 use Rattle.coeus.specs.declared.refusals.Refusal.{Refusal}
-use Rattle.coeus.specs.declared.refusals.Refusal.TheVariants.{Corpus, CorpusTooLong, Publish, Test, Keywords, File, Output, Memory}
-use Rattle.coeus.specs.Words.{Spoken, SpokenPlain, SpokenImport, SpokenShape, SpokenWrong, PlainWords, ImportWords, spoken}
+use Rattle.coeus.specs.declared.refusals.Refusal.TheVariants.{Corpus, CorpusTooLong, Publish, Test, Keywords, Search, File, Output, Memory}
+use Rattle.coeus.specs.Words.{Spoken, SpokenPlain, SpokenImport, SpokenShape, SpokenLocal, SpokenWrong, PlainWords, ImportWords, spoken}
 use Rattle.coeus.specs.Outside.{Outside, FilesState, SinkState, HasNoFault}
-use Rattle.coeus.specs.Refusals.{status_of, status_of_publishing, text_of, Says}
+use Rattle.coeus.specs.Refusals.{status_of, status_of_publishing, status_of_search, text_of, Says}
 use Rattle.coeus.specs.Searches.{HasCorpus, IsToldCorpus, ReadCause, TextCause, CanBeSearched}
 use Rattle.coeus.specs.Imports.{CanBeImported}
 use Rattle.coeus.specs.ShapeLines.{status_of_test}
-use Rattle.coeus.specs.Runs.{Keeps, Due, Answered, RefusedBy, Ran}
+use Rattle.coeus.specs.Runs.{Keeps, Draws, Due, Answered, RefusedBy, Ran}
 
 -- ---- refusals of the steps
 
 -- that the corpus of this name isn't read is a refusal of the command
 abbrev pub RefusesUnread : Spoken → List ℕ → Type 0
 RefusesUnread command name = (was is : Outside) (refusal : Refusal) → ReadCause name was.files is.files refusal
-    → is.out.bytes ≡ was.out.bytes → is.files.held ≡ was.files.held → RefusedBy command was is refusal
+    → is.out.bytes ≡ was.out.bytes → is.files.held ≡ was.files.held → is.random ≡ was.random → RefusedBy command was is refusal
 
 pub plain_unread : (p : PlainWords) → RefusesUnread (SpokenPlain p) p.corpus
-plain_unread p was is (Corpus fault) cause out files = record { cause = cause; out = out; files = files }
-plain_unread p was is CorpusTooLong cause out files = record { cause = cause; out = out; files = files }
-plain_unread p was is (File Read) cause out files = record { cause = cause; out = out; files = files }
-plain_unread p was is Memory cause out files = record { cause = cause; out = out; files = files }
-plain_unread p was is refusal cause out files = absurd cause
+plain_unread p was is (Corpus fault) cause out files draws = record { cause = cause; out = out; files = files; draws = draws }
+plain_unread p was is CorpusTooLong cause out files draws = record { cause = cause; out = out; files = files; draws = draws }
+plain_unread p was is (File Read) cause out files draws = record { cause = cause; out = out; files = files; draws = draws }
+plain_unread p was is Memory cause out files draws = record { cause = cause; out = out; files = files; draws = draws }
+plain_unread p was is refusal cause out files draws = absurd cause
 
 pub import_unread : (i : ImportWords) → RefusesUnread (SpokenImport i) i.corpus
-import_unread i was is (Corpus fault) cause out files = record { cause = cause; out = out; files = files }
-import_unread i was is CorpusTooLong cause out files = record { cause = cause; out = out; files = files }
-import_unread i was is (File Read) cause out files = record { cause = cause; out = out; files = files }
-import_unread i was is Memory cause out files = record { cause = cause; out = out; files = files }
-import_unread i was is refusal cause out files = absurd cause
+import_unread i was is (Corpus fault) cause out files draws = record { cause = cause; out = out; files = files; draws = draws }
+import_unread i was is CorpusTooLong cause out files draws = record { cause = cause; out = out; files = files; draws = draws }
+import_unread i was is (File Read) cause out files draws = record { cause = cause; out = out; files = files; draws = draws }
+import_unread i was is Memory cause out files draws = record { cause = cause; out = out; files = files; draws = draws }
+import_unread i was is refusal cause out files draws = absurd cause
 
 -- a corpus that is read has no answer
 pub plain_unfound : (p : PlainWords) (was is : Outside) (documents : List Document) (refusal : Refusal)
     → HasCorpus was.files.held p.corpus documents → TextCause p refusal
-    → is.out.bytes ≡ was.out.bytes → is.files.held ≡ was.files.held → RefusedBy (SpokenPlain p) was is refusal
-plain_unfound p was is documents (Publish (publishing.Setting which)) corpus cause out files =
-    record { cause = record { documents = documents; corpus = corpus; cause = cause }; out = out; files = files }
-plain_unfound p was is documents (Keywords number) corpus cause out files =
-    record { cause = record { documents = documents; corpus = corpus; cause = cause }; out = out; files = files }
-plain_unfound p was is documents Memory corpus cause out files = record { cause = tt; out = out; files = files }
-plain_unfound p was is documents refusal corpus cause out files = absurd cause
+    → is.out.bytes ≡ was.out.bytes → is.files.held ≡ was.files.held → is.random ≡ was.random → RefusedBy (SpokenPlain p) was is refusal
+plain_unfound p was is documents (Publish (publishing.Setting which)) corpus cause out files draws =
+    record { cause = record { documents = documents; corpus = corpus; cause = cause }; out = out; files = files; draws = draws }
+plain_unfound p was is documents (Keywords number) corpus cause out files draws =
+    record { cause = record { documents = documents; corpus = corpus; cause = cause }; out = out; files = files; draws = draws }
+plain_unfound p was is documents Memory corpus cause out files draws = record { cause = tt; out = out; files = files; draws = draws }
+plain_unfound p was is documents refusal corpus cause out files draws = absurd cause
 
 -- ---- the status that is due
 
@@ -68,12 +72,6 @@ abbrev of_file : Option (Option (List ℕ)) → Result (List Document) CorpusFau
 of_file None = Err Empty
 of_file (Some None) = Err Empty
 of_file (Some (Some bytes)) = corpus_of bytes
-
-differ : {T E : Type 0} (t : T) (e : E) (r : Result T E) → r ≡ Ok t → r ≡ Err e → ⊥
-differ {T} {E} t e r ok err = true≢false (sym (subst (λ (x : Result T E). IsErr x) (sym err ∙ ok) refl))
-
-same_value : {T E : Type 0} (x : Result T E) (a b : T) → x ≡ Ok a → x ≡ Ok b → a ≡ b
-same_value {T} {E} x a b one two = cc
 
 -- a file that is told has one content, which reads in one way
 read_as : (held : Option Folder) (name : List ℕ) (documents : List Document) → IsToldCorpus held name documents
@@ -137,6 +135,7 @@ pub due_answered : (command : Spoken) (was is : Outside) → Answered command wa
 due_answered (SpokenPlain p) was is a due d = sym d.1
 due_answered (SpokenImport i) was is a due d = sym d.1
 due_answered (SpokenShape s) was is a due d = sym (d ∙ passed (test_of s) a.passes)
+due_answered (SpokenLocal p) was is a due d = sym (local_placed p was is a due d)
 due_answered SpokenWrong was is a due d = absurd a.prints
 
 pub due_refused : (command : Spoken) (was is : Outside) (refusal : Refusal) → HasNoFault was is → RefusedBy command was is refusal
@@ -145,6 +144,7 @@ due_refused (SpokenPlain p) was is refusal kept r due d = inr (plain_due p was i
 due_refused (SpokenImport i) was is refusal kept r due d = inr (import_due i was is refusal kept r d.0)
 due_refused (SpokenShape s) was is refusal kept r due d =
     subst (λ (n : ℕ). (status_of refusal ≡ n) ⊎ (status_of refusal ≡ 10)) (sym d) (shape_due s was is refusal kept r)
+due_refused (SpokenLocal p) was is refusal kept r due d = local_due p was is refusal kept r due d
 due_refused SpokenWrong was is Output kept r due d = absurd (kept.out r.took.rose)
 due_refused SpokenWrong was is refusal kept r due d = inl (ap status_of r.cause ∙ sym d)
 
@@ -155,6 +155,7 @@ pub keeps_all : (command : Spoken) (was is : Option Folder) → is ≡ was → K
 keeps_all (SpokenImport i) was is same = λ name differs. ap (λ (h : Option Folder). file_at h name) same
 keeps_all (SpokenPlain p) was is same = same
 keeps_all (SpokenShape s) was is same = same
+keeps_all (SpokenLocal p) was is same = same
 keeps_all SpokenWrong was is same = same
 
 refused_keeps : (command : Spoken) (was is : Outside) (refusal : Refusal) → RefusedBy command was is refusal → Keeps command was.files.held is.files.held
@@ -162,10 +163,22 @@ refused_keeps command was is Output r = r.keeps
 refused_keeps command was is (File Write) r = r.files
 refused_keeps command was is refusal r = keeps_all command was.files.held is.files.held r.files
 
+refused_draws : (command : Spoken) (was is : Outside) (refusal : Refusal) → RefusedBy command was is refusal → Draws command was.random is.random
+refused_draws command was is Output r = r.draws
+refused_draws command was is refusal r = r.draws
+
 unchanged : (command : Spoken) (was is : Outside) (refusal : Refusal) → RefusedBy command was is refusal → status_of refusal ≢ 9 → is.files.held ≡ was.files.held
 unchanged command was is Output r other = absurd (other refl)
 unchanged command was is (File Write) r other = absurd (other refl)
 unchanged command was is refusal r other = r.files
+
+refused_positive : (b : Bool) → 8 ≤ (if b then 10 else 8)
+refused_positive true = omega arith
+refused_positive false = omega arith
+
+search_positive : (fault : SearchFault) → status_of_search fault ≢ 0
+search_positive (searching.Refused target status) zero = absurd (omega (arith, refused_positive (status == 503), zero))
+search_positive fault zero = absurd cc
 
 -- no refusal has status 0
 positive : (refusal : Refusal) → status_of refusal ≢ 0
@@ -174,6 +187,7 @@ positive (Corpus fault) zero = absurd cc
 positive (Publish (publishing.Test fault)) zero = absurd cc
 positive (Publish publishing.OutOfMemory) zero = absurd cc
 positive (Publish fault) zero = absurd cc
+positive (Search fault) zero = search_positive fault zero
 positive refusal zero = absurd cc
 
 pub ran_answered : (words : List (List ℕ)) (command : Spoken) (was is : Outside) (err : SinkState) → command ≡ spoken words → Answered command was is
@@ -185,6 +199,7 @@ ran_answered words command was is err same a =
       refused = λ other. absurd (other refl);
       complete = λ kept due d. inl (due_answered (spoken words) was is answered due d);
       keeps = answered.keeps;
+      draws = answered.draws;
       unchanged = λ other nine. absurd (other refl);
     }
 
@@ -198,5 +213,6 @@ ran_refused words command was is err_was err_is refusal status same r status_is 
       refused = λ other. record { refusal = refusal; status_is = status_is; ended = ended; says = says };
       complete = λ kept due d. subst (λ (n : ℕ). (n ≡ due) ⊎ (n ≡ 10)) (sym status_is) (due_refused (spoken words) was is refusal kept ended due d);
       keeps = refused_keeps (spoken words) was is refusal ended;
+      draws = refused_draws (spoken words) was is refusal ended;
       unchanged = λ other nine. unchanged (spoken words) was is refusal ended (λ e. nine (status_is ∙ e));
     }

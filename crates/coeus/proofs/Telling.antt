@@ -1,13 +1,13 @@
 -- A line that is put in parts.
 use Rattle.std.proofs.Common.{◌≡◌, ℕ, ◌≤◌, List, [], ◌∷◌, ◌++◌, Option, Some, None, Ok, refl, sym, ap, subst, ◌∙◌, append_assoc, append-nil, map, take, length, ◌+◌, ◌<◌, get_or, true, Bor, arith}
-use Rattle.std.specs.Prelude.{Result, is_ok, Err}
+use Rattle.std.specs.Prelude.{Result, is_ok, Err, codes, decimal}
 use Rattle.std.proofs.lemmas.List.{take_more}
 use mathlib.Core.Bool.{true≢false}
 use Rattle.co_link.specs.Causes.{Rose}
 use Rattle.co_link.specs.Held.{Appends, TookWhole}
 use Rattle.co_link.specs.declared.sink.Failed.{Failed}
 use Rattle.coeus.specs.Outside.{SinkState}
-use Rattle.coeus.specs.Refusals.{flat, Says}
+use Rattle.coeus.specs.Refusals.{flat, numbers_text, Says}
 
 -- no piece
 pub took_nothing : (was : Option (List ℕ)) → TookWhole was was []
@@ -54,3 +54,28 @@ said a b c d was one two is p q r ab bc cd first second third kept =
 -- an equal text is said by the same line
 pub says_as : (a b : List ℕ) (was is : SinkState) → a ≡ b → Says a was is → Says b was is
 says_as a b was is same says = subst (λ (text : List ℕ). Says text was is) same says
+
+-- four puts, likewise
+pub put_four : (a b c d e : ℕ) (was one two three is : Option (List ℕ)) (p q r s : List ℕ) → a ≤ b → b ≤ c → c ≤ d → d ≤ e
+    → (¬ (Rose a b) → TookWhole was one p) → (¬ (Rose b c) → TookWhole one two q) → (¬ (Rose c d) → TookWhole two three r) → (¬ (Rose d e) → TookWhole three is s)
+    → ¬ (Rose a e) → TookWhole was is (p ++ (q ++ (r ++ s)))
+put_four a b c d e was one two three is p q r s ab bc cd de first second third fourth kept =
+    took_more was one is p (q ++ (r ++ s)) (first (λ rose. kept (omega (arith, rose))))
+    (said b c d e one two three is q r s bc cd de second third fourth (λ rose. kept (omega (arith, rose))))
+
+-- one number more
+numbers_text-more : (ns : List ℕ) (n : ℕ) → numbers_text (ns ++ n ∷ []) ≡ numbers_text ns ++ (32 ∷ decimal n)
+numbers_text-more [] n = append-nil (32 ∷ decimal n)
+numbers_text-more (m ∷ ms) n =
+    ap (λ (t : List ℕ). (32 ∷ decimal m) ++ t) (numbers_text-more ms n) ∙ sym (append_assoc (32 ∷ decimal m) (numbers_text ms) (32 ∷ decimal n))
+
+-- the numbers up to this one were put, and this one too
+pub number_more : (ns : List ℕ) (i d : ℕ) (was mid is : Option (List ℕ)) (digits : List ℕ) → i < length ns → digits ≡ decimal (get_or ns i d)
+    → TookWhole was mid (numbers_text (take i ns)) → TookWhole mid is (flat (codes " " ∷ digits ∷ []))
+    → TookWhole was is (numbers_text (take (i + 1) ns))
+number_more ns i d was mid is digits within same first second =
+    let all = took_more was mid is (numbers_text (take i ns)) (32 ∷ (digits ++ [])) first second in
+    let text : numbers_text (take i ns) ++ (32 ∷ (digits ++ [])) ≡ numbers_text (take (i + 1) ns) =
+    ap (λ (t : List ℕ). numbers_text (take i ns) ++ (32 ∷ t)) (append-nil digits ∙ same) ∙ sym (numbers_text-more (take i ns) (get_or ns i d))
+    ∙ ap numbers_text (sym (take_more ns i d within)) in
+    subst (λ (t : List ℕ). TookWhole was is t) text all

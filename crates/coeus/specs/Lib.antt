@@ -6,4 +6,5 @@ pub mod Refusals
 pub mod Searches
 pub mod Imports
 pub mod ShapeLines
+pub mod Locals
 pub mod Runs

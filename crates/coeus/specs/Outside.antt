@@ -1,5 +1,6 @@
 -- What the program meets outside itself, at one moment of a call.
 use Rattle.std.specs.Prelude.{◌≡◌, ℕ, List, Option, Some}
+use Rattle.rand_core.specs.Stream.{Stream}
 use Rattle.co_link.specs.Causes.{Rose}
 use Rattle.co_link.specs.Files.{Folder, FileCall}
 use Rattle.co_link.specs.Held.{TookWhole, TookPrefix}
@@ -15,9 +16,10 @@ pub record SinkState : Type 0 where
   pub bytes : Option (List ℕ)
   pub faults : ℕ
 
--- the files and the output
+-- the files, the random words that are left, and the output
 pub record Outside : Type 0 where
   pub files : FilesState
+  pub random : Stream
   pub out : SinkState
 
 -- ---- the same by their parts
@@ -29,12 +31,13 @@ files_state held faults last_failed =
 abbrev pub sink_state : Option (List ℕ) → ℕ → SinkState
 sink_state bytes faults = record { bytes = bytes; faults = faults }
 
-abbrev pub outside : FilesState → SinkState → Outside
-outside files out = record { files = files; out = out }
+abbrev pub outside : FilesState → Stream → SinkState → Outside
+outside files random out = record { files = files; random = random; out = out }
 
-abbrev pub outside_of : Option Folder → ℕ → Option FileCall → Option (List ℕ) → ℕ → Outside
-outside_of held faults last_failed bytes put_faults =
-    outside (files_state held faults last_failed) (sink_state bytes put_faults)
+abbrev pub outside_of : Option Folder → ℕ → Option FileCall → Stream → Option (List ℕ) → ℕ
+    → Outside
+outside_of held faults last_failed random bytes put_faults =
+    outside (files_state held faults last_failed) random (sink_state bytes put_faults)
 
 -- ---- what changed
 

@@ -1,5 +1,5 @@
 -- Why the program refuses, with which status, and what it says.
-use Rattle.std.specs.Prelude.{ℕ, List, [], ◌∷◌, ◌++◌, codes, decimal}
+use Rattle.std.specs.Prelude.{ℕ, ◌==◌, if◌then◌else◌, List, [], ◌∷◌, ◌++◌, map, codes, decimal}
 use Rattle.co_link.specs.Causes.{Rose}
 use Rattle.co_link.specs.declared.files.FileKind.{FileKind}
 use Rattle.co_link.specs.declared.files.FileKind.TheVariants.{Read, Write}
@@ -11,8 +11,13 @@ use Rattle.co_library.specs.declared.settings.SettingName.{SettingName}
 use Rattle.co_library.specs.declared.settings.SettingName.TheVariants.{Degree, Terms, Hits, Chunks}
 use Rattle.co_library.specs.declared.publishing.PublishFault.{PublishFault}
 use Rattle.co_library.specs.declared.publishing.PublishFault.TheVariants as publishing
+use Rattle.co_link.specs.declared.messages.Target.{Target}
+use Rattle.co_link.specs.declared.messages.Target.TheVariants as rounds
+use Rattle.co_client.specs.declared.fault.SearchFault.{SearchFault}
+use Rattle.co_client.specs.declared.fault.SearchFault.TheVariants as searching
 use Rattle.coeus.specs.declared.refusals.Refusal.{Refusal}
-use Rattle.coeus.specs.declared.refusals.Refusal.TheVariants.{Words, Corpus, CorpusTooLong, Publish, Test, Keywords, File, Output, Memory}
+use Rattle.coeus.specs.declared.refusals.Refusal.TheVariants.{Words, Corpus, CorpusTooLong, Publish, LibraryTooLong, Library, Test, Keywords, Search, File, Output, Memory}
+use Rattle.coeus.specs.Words.{spaced}
 use Rattle.coeus.specs.Outside.{SinkState, Took}
 
 -- ---- statuses
@@ -26,13 +31,34 @@ status_of_publishing (publishing.Test fault) = 4
 status_of_publishing publishing.OutOfMemory = 10
 status_of_publishing fault = 3
 
+-- a server without memory counts as want of memory
+abbrev pub status_of_refused : ℕ → ℕ
+status_of_refused status = if status == 503 then 10 else 8
+
+abbrev pub status_of_search : SearchFault → ℕ
+status_of_search (searching.TooManyKeywords found) = 5
+status_of_search (searching.BadPublic place) = 8
+status_of_search (searching.Test fault) = 4
+status_of_search (searching.NoPlacement documents buckets) = 6
+status_of_search searching.Link = 7
+status_of_search (searching.Refused target status) = status_of_refused status
+status_of_search (searching.BadReply target place) = 8
+status_of_search (searching.WrongRecord wanted found) = 8
+status_of_search (searching.BadPlace document) = 8
+status_of_search (searching.NotByte target reply place) = 8
+status_of_search (searching.BadRecord document place) = 8
+status_of_search searching.OutOfMemory = 10
+
 abbrev pub status_of : Refusal → ℕ
 status_of Words = 2
 status_of (Corpus fault) = status_of_corpus fault
 status_of CorpusTooLong = 3
 status_of (Publish fault) = status_of_publishing fault
+status_of LibraryTooLong = 3
+status_of (Library place) = 3
 status_of (Test fault) = 4
 status_of (Keywords found) = 5
+status_of (Search fault) = status_of_search fault
 status_of (File kind) = 9
 status_of Output = 9
 status_of Memory = 10
@@ -88,14 +114,65 @@ publishing_text (publishing.TooBig bytes) = with_number (codes "bins of ") bytes
 publishing_text (publishing.Test fault) = test_text fault
 publishing_text publishing.OutOfMemory = codes "memory"
 
+-- the rounds of a search
+abbrev pub round_name : Target → List ℕ
+round_name rounds.Public = codes "public"
+round_name rounds.Keys = codes "keys"
+round_name rounds.Score = codes "score"
+round_name rounds.Meta = codes "meta"
+round_name rounds.Document = codes "document"
+
+-- a text with a round and a number behind it
+abbrev pub round_text : List ℕ → Target → ℕ → List ℕ
+round_text before target number =
+    flat (before ∷ round_name target ∷ codes " " ∷ decimal number ∷ [])
+
+-- a text with two numbers behind it
+abbrev pub two_numbers : List ℕ → ℕ → ℕ → List ℕ
+two_numbers before first second =
+    flat (before ∷ decimal first ∷ codes " " ∷ decimal second ∷ [])
+
+abbrev pub byte_text : Target → ℕ → ℕ → List ℕ
+byte_text target reply place = flat (codes "not a byte " ∷ round_name target ∷ codes " "
+    ∷ decimal reply ∷ codes " " ∷ decimal place ∷ [])
+
+-- numbers, each with a space before it
+abbrev pub numbers_text : List ℕ → List ℕ
+numbers_text numbers = spaced (map decimal numbers)
+
+-- documents, and their buckets, of which there are too few
+abbrev pub witness_text : List ℕ → List ℕ → List ℕ
+witness_text documents buckets = codes "no placement: documents" ++ (numbers_text documents
+    ++ (codes " buckets" ++ numbers_text buckets))
+
+abbrev pub search_text : SearchFault → List ℕ
+search_text (searching.TooManyKeywords found) =
+    with_number [] found (codes " keywords, at most 16")
+search_text (searching.BadPublic place) = with_number (codes "bad public ") place []
+search_text (searching.Test fault) = test_text fault
+search_text (searching.NoPlacement documents buckets) = witness_text documents buckets
+search_text searching.Link = codes "link"
+search_text (searching.Refused target status) = round_text (codes "refused ") target status
+search_text (searching.BadReply target place) = round_text (codes "bad reply ") target place
+search_text (searching.WrongRecord wanted found) =
+    two_numbers (codes "wrong record ") wanted found
+search_text (searching.BadPlace document) = with_number (codes "bad place ") document []
+search_text (searching.NotByte target reply place) = byte_text target reply place
+search_text (searching.BadRecord document place) =
+    two_numbers (codes "bad record ") document place
+search_text searching.OutOfMemory = codes "memory"
+
 -- what a refusal says, where these are the words of the command line
 abbrev pub text_of : List (List ℕ) → Refusal → List ℕ
 text_of words Words = codes "wrong words"
 text_of words (Corpus fault) = corpus_text fault
 text_of words CorpusTooLong = codes "corpus too long"
 text_of words (Publish fault) = publishing_text fault
+text_of words LibraryTooLong = codes "library too long"
+text_of words (Library place) = with_number (codes "library: wrong at byte ") place []
 text_of words (Test fault) = test_text fault
 text_of words (Keywords found) = with_number [] found (codes " keywords, at most 16")
+text_of words (Search fault) = search_text fault
 text_of words (File kind) = flat (codes "file " ∷ name_of kind words ∷ [])
 text_of words Output = codes "output"
 text_of words Memory = codes "memory"

@@ -20,22 +20,22 @@ use Rattle.coeus.specs.declared.refusals.Refusal.TheVariants.{Corpus, CorpusTooL
 
 -- ---- the corpus of a file
 
--- the file has these bytes, where the files tell, and they are within the limit of a corpus
-pub record HasFile (held : Option Folder) (name bytes : List ℕ) : Type 0 where
+-- the file has these bytes, where the files tell, and they are at most so many
+pub record HasFile (limit : ℕ) (held : Option Folder) (name bytes : List ℕ) : Type 0 where
   pub stands : IsSome held → file_at held name ≡ Some (Some bytes)
-  pub fits : length bytes ≤ MAX_CORPUS
+  pub fits : length bytes ≤ limit
 
 -- the file of a corpus, with the documents that it reads as
 pub record HasCorpus (held : Option Folder) (name : List ℕ)
     (documents : List Document) : Type 0 where
   pub bytes : List ℕ
-  pub file : HasFile held name bytes
+  pub file : HasFile MAX_CORPUS held name bytes
   pub read : corpus_of bytes ≡ Ok documents
 
 -- the file isn't a corpus, by this fault
 pub record HasFault (held : Option Folder) (name : List ℕ) (fault : CorpusFault) : Type 0 where
   pub bytes : List ℕ
-  pub file : HasFile held name bytes
+  pub file : HasFile MAX_CORPUS held name bytes
   pub unread : corpus_of bytes ≡ Err fault
 
 -- why the corpus of a file isn't given; want of memory has no cause

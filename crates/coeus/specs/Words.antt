@@ -8,7 +8,7 @@ use Rattle.std.specs.Str.Parse.{digits_value}
 use Rattle.co_noise.specs.Shapes.{Numbers, numbers, shape_of, is_within}
 use Rattle.co_library.specs.declared.settings.Settings.{Settings}
 use Rattle.coeus.specs.declared.options.Options.{Options}
-use Rattle.coeus.specs.declared.limits.TheConstants.{DEFAULT_DEGREE, DEFAULT_TERMS, DEFAULT_HITS, DEFAULT_SALT, DEFAULT_CHUNKS, DEFAULT_PICK, MAX_PICK, SHORT_DIGITS}
+use Rattle.coeus.specs.declared.limits.TheConstants.{DEFAULT_DEGREE, DEFAULT_TERMS, DEFAULT_HITS, DEFAULT_SALT, DEFAULT_CHUNKS, DEFAULT_PICK, DEFAULT_WORKERS, MAX_PICK, MAX_WORKERS, SHORT_DIGITS}
 
 -- one to so many decimal digits
 abbrev pub are_digits : ℕ → List ℕ → Bool
@@ -35,8 +35,15 @@ begins_with_dash (b ∷ bs) = b == 45
 -- ---- options
 
 abbrev pub no_options : Options
-no_options =
-    record { degree = None; terms = None; hits = None; salt = None; chunks = None; pick = None }
+no_options = record {
+  degree = None;
+  terms = None;
+  hits = None;
+  salt = None;
+  chunks = None;
+  pick = None;
+  workers = None;
+}
 
 -- the number of an option that is given once
 abbrev pub once : Option ℕ → List ℕ → Option ℕ
@@ -57,6 +64,8 @@ with_option o name value =
     then option_map (λ n. record o { chunks = Some n }) (once o.chunks value)
     else if bytes_eq name (codes "--pick")
     then option_map (λ n. record o { pick = Some n }) (once o.pick value)
+    else if bytes_eq name (codes "--workers")
+    then option_map (λ n. record o { workers = Some n }) (once o.workers value)
     else None
 
 -- what stands behind the positional words: options in any order, then `--` and a query, if any
@@ -88,12 +97,20 @@ pub record ImportWords : Type 0 where
   pub library : List ℕ
   pub settings : Settings
 
+-- what `local LIBRARY` is to do
+pub record LocalWords : Type 0 where
+  pub library : List ℕ
+  pub pick : ℕ
+  pub workers : ℕ
+  pub query : List (List ℕ)
+
 -- what words ask for: a command, where a shape is the published numbers that its four words stand
 -- for, or nothing that is in the grammar
 pub data Spoken : Type 0 where
   SpokenPlain : PlainWords → Spoken
   SpokenImport : ImportWords → Spoken
   SpokenShape : Numbers → Spoken
+  SpokenLocal : LocalWords → Spoken
   SpokenWrong : Spoken
 
 -- what is spoken, if it is in the grammar
@@ -101,22 +118,38 @@ abbrev pub or_wrong : {A : Type 0} → (A → Spoken) → Option A → Spoken
 or_wrong speak None = SpokenWrong
 or_wrong speak (Some words) = speak words
 
--- the pick, 1 to 64, or else 1, where no option was given that is for publishing alone
-abbrev pub pick_of : Options → Option ℕ
-pick_of o =
-    if is_none o.degree && is_none o.salt && is_none o.chunks
-    && is_within 1 MAX_PICK (unwrap_or o.pick DEFAULT_PICK)
-    then Some (unwrap_or o.pick DEFAULT_PICK) else None
+-- a number from 1 to `most`, or the usual one where none is given
+abbrev pub number_within : Option ℕ → ℕ → ℕ → Option ℕ
+number_within given usual most =
+    if is_within 1 most (unwrap_or given usual) then Some (unwrap_or given usual) else None
 
--- `plain` has a query, and the options `--terms`, `--hits` and `--pick`
+-- the pick, 1 to 64, or else 1
+abbrev pub pick_of : Options → Option ℕ
+pick_of o = number_within o.pick DEFAULT_PICK MAX_PICK
+
+-- the number of workers, 1 to 64, or else 4
+abbrev pub workers_of : Options → Option ℕ
+workers_of o = number_within o.workers DEFAULT_WORKERS MAX_WORKERS
+
+-- no option was given but `--terms`, `--hits` and `--pick`
+abbrev pub are_for_plain : Options → Bool
+are_for_plain o = is_none o.degree && is_none o.salt && is_none o.chunks && is_none o.workers
+
+-- no option was given but `--pick` and `--workers`
+abbrev pub are_for_local : Options → Bool
+are_for_local o =
+    is_none o.degree && is_none o.terms && is_none o.hits && is_none o.salt && is_none o.chunks
+
+-- `plain` has a query, and options of its own
 abbrev pub plain_of : List ℕ → Rest → Option PlainWords
-plain_of corpus rest = option_and_then (λ query. option_map (λ pick. record {
-  corpus = corpus;
-  terms = unwrap_or rest.options.terms DEFAULT_TERMS;
-  hits = unwrap_or rest.options.hits DEFAULT_HITS;
-  pick = pick;
-  query = query;
-}) (pick_of rest.options)) rest.query
+plain_of corpus rest = option_and_then (λ query.
+    if are_for_plain rest.options then option_map (λ pick. record {
+      corpus = corpus;
+      terms = unwrap_or rest.options.terms DEFAULT_TERMS;
+      hits = unwrap_or rest.options.hits DEFAULT_HITS;
+      pick = pick;
+      query = query;
+    }) (pick_of rest.options) else None) rest.query
 
 -- behind `plain`: CORPUS, options, `--` and a query
 abbrev pub plain_words : List (List ℕ) → Option PlainWords
@@ -125,10 +158,29 @@ plain_words (corpus ∷ rest) =
     if begins_with_dash corpus then None
     else option_and_then (plain_of corpus) (rest_of no_options rest)
 
--- the settings, where no pick and no query was given
+-- `local` has a query, and options of its own
+abbrev pub local_of : List ℕ → Rest → Option LocalWords
+local_of library rest = option_and_then (λ query.
+    if are_for_local rest.options
+    then option_and_then (λ pick. option_map (λ workers. record {
+      library = library;
+      pick = pick;
+      workers = workers;
+      query = query;
+    }) (workers_of rest.options)) (pick_of rest.options)
+    else None) rest.query
+
+-- behind `local`: LIBRARY, options, `--` and a query
+abbrev pub local_words : List (List ℕ) → Option LocalWords
+local_words [] = None
+local_words (library ∷ rest) =
+    if begins_with_dash library then None
+    else option_and_then (local_of library) (rest_of no_options rest)
+
+-- the settings, where no option of a search and no query was given
 abbrev pub settings_of : Rest → Option Settings
 settings_of rest =
-    if is_none rest.options.pick && is_none rest.query
+    if is_none rest.options.pick && is_none rest.options.workers && is_none rest.query
     then Some (record {
       degree = unwrap_or rest.options.degree DEFAULT_DEGREE;
       terms = unwrap_or rest.options.terms DEFAULT_TERMS;
@@ -165,6 +217,7 @@ spoken (command ∷ words) =
     if bytes_eq command (codes "plain") then or_wrong SpokenPlain (plain_words words)
     else if bytes_eq command (codes "import") then or_wrong SpokenImport (import_words words)
     else if bytes_eq command (codes "shape") then or_wrong SpokenShape (shape_words words)
+    else if bytes_eq command (codes "local") then or_wrong SpokenLocal (local_words words)
     else SpokenWrong
 
 -- ---- the query

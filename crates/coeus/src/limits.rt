@@ -3,11 +3,17 @@
 /// The most bytes of a corpus file.
 pub const MAX_CORPUS: u64 = 268_435_456;
 
+/// The most bytes of a library file.
+pub const MAX_LIBRARY: u64 = 671_088_640;
+
 /// The most digits of a number of 32 bits.
 pub const SHORT_DIGITS: usize = 10;
 
 /// The last rank that may be picked.
 pub const MAX_PICK: u32 = 64;
+
+/// The most workers of a reply.
+pub const MAX_WORKERS: u32 = 64;
 
 /// The degree of a library, if no other is asked.
 pub const DEFAULT_DEGREE: u32 = 4_096;
@@ -26,3 +32,6 @@ pub const DEFAULT_CHUNKS: u32 = 1;
 
 /// The rank of the hit whose document is printed, if no other is asked.
 pub const DEFAULT_PICK: u32 = 1;
+
+/// How many workers compute a reply, if no other number is asked.
+pub const DEFAULT_WORKERS: u32 = 4;

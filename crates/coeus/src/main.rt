@@ -1,26 +1,32 @@
 //! Coeus: keyword search over a library's documents.
 //!
-//! `run` does all that the program does, over files and sinks that are handed in; its contract says
-//! what each status means. `main` makes the real devices and calls it.
+//! `run` does all that the program does, over files, random words and sinks that are handed in; its
+//! contract says what each status means. `main` makes the real devices and calls it.
 //!
 //! Not here: what a corpus is (co_corpus), what is found (co_tfidf), how it is printed (co_text),
-//! how a corpus is published (co_library), and what a shape's bounds are (co_noise).
+//! how a corpus is published (co_library), what a shape's bounds are (co_noise), how a library is
+//! served (co_server) and how it is asked (co_client).
 #![tactic(auto)]
 
 mod limits;
+mod local;
 mod options;
 mod plain;
 mod program;
 mod publish;
 mod refusals;
+mod search_faults;
 mod shape;
 mod words;
 
 use crate::refusals::{Refusal, tell};
-use co_link::{StdFiles, StdSink};
+use co_link::{Sink, StdFiles, StdSink};
 pub use program::run;
+use rand_chacha::ChaCha20Rng;
+use rand_core::SeedableRng;
+use std::io::Read;
 use std::process::ExitCode;
-use std::{env, io};
+use std::{env, fs, io};
 
 // The words behind the program's name. A word that is no UTF-8 is a wrong word.
 fn words_of(rt: &HostRuntime) -> Result<Vec<String>, Refusal> {
@@ -42,16 +48,27 @@ fn words_of(rt: &HostRuntime) -> Result<Vec<String>, Refusal> {
     Ok(words)
 }
 
+// A generator from 32 bytes of the system's random source, where they can be read.
+fn generator(rt: &HostRuntime) -> Option<ChaCha20Rng> {
+    let mut source = fs::open(rt, "/dev/urandom").ok()?;
+    let mut seed = [0u8; 32];
+    source.read_exact(&mut seed).ok()?;
+    Some(ChaCha20Rng::from_seed(seed))
+}
+
 fn main(rt: HostRuntime) -> ExitCode {
     let alloc = rt.alloc();
     let mut err = StdSink::new(rt.stderr());
-    let status = match words_of(&rt) {
-        Ok(words) => {
-            let mut files = StdFiles::new(&rt, alloc);
-            let mut out = StdSink::new(rt.stdout());
-            run(&rt, alloc, &words, &mut files, &mut out, &mut err)
-        }
-        Err(refusal) => tell(&[], refusal, &mut err),
+    let words = match words_of(&rt) {
+        Ok(words) => words,
+        Err(refusal) => return ExitCode::from(tell(&[], refusal, &mut err)),
     };
+    let Some(mut rng) = generator(&rt) else {
+        let _ = err.put(b"coeus: random\n");
+        return ExitCode::from(9);
+    };
+    let mut files = StdFiles::new(&rt, alloc);
+    let mut out = StdSink::new(rt.stdout());
+    let status = run(&rt, alloc, &words, &mut files, &mut rng, &mut out, &mut err);
     ExitCode::from(status)
 }

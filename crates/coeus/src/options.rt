@@ -1,14 +1,15 @@
 //! Numbers and options among the words of the command line.
-ghost use Rattle.std.specs.Prelude.{◌≡◌, ◌≤◌, string_bytes, map, option_map, true, length};
+ghost use Rattle.std.specs.Prelude.{◌≡◌, ◌≤◌, string_bytes, map, option_map, true, length, IfSome};
 ghost use Rattle.std.specs.Char.{is_ascii_digit};
 ghost use Rattle.std.specs.List.{list_all};
 ghost use Rattle.std.specs.Str.Parse.{digits_value};
 ghost use Rattle.coeus.specs.Words.{are_digits, digits_number, short_number, once, with_option};
-ghost use Rattle.coeus.specs.Words.{no_options, rest_of, pick_of};
+ghost use Rattle.coeus.specs.Words.{no_options, rest_of, number_within, pick_of, workers_of};
+ghost use Rattle.coeus.specs.Words.{are_for_plain, are_for_local};
 ghost use Rattle.coeus.specs.Commands.{rest_shown};
 ghost use Rattle.coeus.specs.Next.{next_shown, words_left};
 
-use crate::limits::{DEFAULT_PICK, MAX_PICK, SHORT_DIGITS};
+use crate::limits::{DEFAULT_PICK, DEFAULT_WORKERS, MAX_PICK, MAX_WORKERS, SHORT_DIGITS};
 
 /// The options that were given, each with its number.
 #[derive(Clone, Copy)]
@@ -25,6 +26,8 @@ pub struct Options {
     pub chunks: Option<u32>,
     /// The rank of the hit whose document is given.
     pub pick: Option<u32>,
+    /// How many workers compute a reply.
+    pub workers: Option<u32>,
 }
 
 /// Options, and the query words behind `--`, where there is that word.
@@ -93,6 +96,18 @@ fn once(before: Option<u32>, value: &str) -> Option<u32>
     read_short(value)
 }
 
+// A number of an option from 1 to `most`, or what stands for it where it isn't given.
+fn within(given: Option<u32>, usual: u32, most: u32) -> Option<u32>
+    ensures value { result ≡ number_within given usual most }
+    ensures within { IfSome result (λ number. (1 ≤ number) × (number ≤ most)) }
+{
+    let number = given.unwrap_or(usual);
+    if number < 1 || number > most {
+        return None;
+    }
+    Some(number)
+}
+
 impl Options {
     fn none() -> Self
         ensures { result ≡ no_options }
@@ -104,6 +119,7 @@ impl Options {
             salt: None,
             chunks: None,
             pick: None,
+            workers: None,
         }
     }
 
@@ -136,21 +152,48 @@ impl Options {
             let pick = Some(once(self.pick, value)?);
             return Some(Options { pick, ..self });
         }
+        if name == "--workers" {
+            let workers = Some(once(self.workers, value)?);
+            return Some(Options { workers, ..self });
+        }
         None
     }
 
-    /// The pick, 1 to 64, or else 1, where no option was given that is for publishing alone.
-    pub fn pick(self) -> Option<u32>
-        ensures { result ≡ pick_of self }
+    /// Whether no option was given but those of a plain search.
+    pub fn are_for_plain(self) -> bool
+        ensures { result ≡ are_for_plain self }
     {
-        if self.degree.is_some() || self.salt.is_some() || self.chunks.is_some() {
-            return None;
-        }
-        let pick = self.pick.unwrap_or(DEFAULT_PICK);
-        if pick < 1 || pick > MAX_PICK {
-            return None;
-        }
-        Some(pick)
+        self.degree.is_none()
+            && self.salt.is_none()
+            && self.chunks.is_none()
+            && self.workers.is_none()
+    }
+
+    /// Whether no option was given but those of a search over a library.
+    pub fn are_for_local(self) -> bool
+        ensures { result ≡ are_for_local self }
+    {
+        self.degree.is_none()
+            && self.terms.is_none()
+            && self.hits.is_none()
+            && self.salt.is_none()
+            && self.chunks.is_none()
+    }
+
+    /// The pick, 1 to 64, or else 1.
+    pub fn pick(self) -> Option<u32>
+        ensures value { result ≡ pick_of self }
+        ensures within { IfSome result (λ pick. (1 ≤ pick) × (pick ≤ 64)) }
+    {
+        within(self.pick, DEFAULT_PICK, MAX_PICK)
+    }
+
+    /// The number of workers, 1 to 64, or else 4.
+    pub fn workers(self) -> Option<u32>
+        ensures value { result ≡ workers_of self }
+        ensures within { IfSome result (λ workers. (1 ≤ workers) × (workers ≤ 64)) }
+    {
+        within(self.workers, DEFAULT_WORKERS, MAX_WORKERS)
     }
 }
 

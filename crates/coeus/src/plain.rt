@@ -1,5 +1,6 @@
 //! The command `plain`: plain search over the documents of a corpus file.
 ghost use Rattle.std.specs.Prelude.{◌≡◌, ◌≤◌, length, IfOk, IfErr, OnOk, ℕ};
+ghost use Rattle.rand_core.specs.Stream.{Stream};
 ghost use Rattle.co_text.specs.Terms.{distinct};
 ghost use Rattle.co_text.specs.Printed.{printed};
 ghost use Rattle.co_text.specs.declared.limits.TheConstants.{MAX_KEYWORDS};
@@ -122,11 +123,11 @@ pub fn plain<F: Files, O: Sink>(
     files: &mut F,
     out: &mut O,
 ) -> Result<(), Refusal>
-    ensures ended { Ended (SpokenPlain (plain_shown command.now))
+    ensures { (random : Stream) → Ended (SpokenPlain (plain_shown command.now))
         (outside_of (F.held files.old) (F.faults files.old) (F.last_failed files.old)
-        (O.put_so_far out.old) (O.faults out.old))
+        random (O.put_so_far out.old) (O.faults out.old))
         (outside_of (F.held files.new) (F.faults files.new) (F.last_failed files.new)
-        (O.put_so_far out.new) (O.faults out.new)) result }
+        random (O.put_so_far out.new) (O.faults out.new)) result }
 {
     let corpus = read_documents(alloc, command.corpus, files)?;
     let text = answer(alloc, &corpus, command)?;

@@ -1,5 +1,6 @@
 //! The command `import`: publishes a corpus as a library file.
 ghost use Rattle.std.specs.Prelude.{◌≡◌, IfOk, string_bytes};
+ghost use Rattle.rand_core.specs.Stream.{Stream};
 ghost use Rattle.coeus.specs.Words.{SpokenImport};
 ghost use Rattle.coeus.specs.Commands.{import_shown};
 ghost use Rattle.coeus.specs.Outside.{outside_of};
@@ -36,13 +37,14 @@ pub fn import<F: Files, O: Sink>(
     files: &mut F,
     out: &mut O,
 ) -> Result<(), Refusal>
-    ensures { Ended (SpokenImport (import_shown command.now))
+    ensures { (random : Stream) → Ended (SpokenImport (import_shown command.now))
         (outside_of (F.held files.old) (F.faults files.old) (F.last_failed files.old)
-        (O.put_so_far out.old) (O.faults out.old))
+        random (O.put_so_far out.old) (O.faults out.old))
         (outside_of (F.held files.new) (F.faults files.new) (F.last_failed files.new)
-        (O.put_so_far out.new) (O.faults out.new)) result }
+        random (O.put_so_far out.new) (O.faults out.new)) result }
 {
     let corpus = read_documents(alloc, command.corpus, files)?;
+    let _ = corpus.as_slice();
     let library = match publish(alloc, &corpus, &command.settings) {
         Ok(library) => library,
         Err(PublishFault::OutOfMemory) => return Err(Refusal::Memory),

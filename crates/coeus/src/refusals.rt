@@ -7,6 +7,8 @@ ghost use Rattle.coeus.specs.Refusals.{with_number, line_text, corpus_text, test
 ghost use Rattle.coeus.specs.Refusals.{setting_text, publishing_text, text_of, flat, Says};
 ghost use Rattle.coeus.specs.Outside.{sink_state};
 
+use crate::search_faults::{say_search, status_of_search};
+use co_client::SearchFault;
 use co_corpus::CorpusFault;
 use co_library::{PublishFault, SettingName};
 use co_link::{FileKind, Sink};
@@ -15,7 +17,7 @@ use itoa::Buffer;
 
 /// Why the program refuses. A fault of the corpus or of publishing that is want of memory reads as
 /// `Memory`.
-#[derive(Clone, Copy)]
+#[derive(Drop)]
 pub enum Refusal {
     /// The words are outside the grammar.
     Words,
@@ -25,10 +27,16 @@ pub enum Refusal {
     CorpusTooLong,
     /// The corpus isn't published, or a setting of `plain` is out of its range.
     Publish(PublishFault),
-    /// The shape leaves no room for noise.
+    /// The library file has more bytes than it may.
+    LibraryTooLong,
+    /// The file isn't a library: the offset of the first field that is wrong or not whole.
+    Library(u64),
+    /// The shape, or that of the library, leaves no room for noise.
     Test(TestFault),
     /// The query has so many distinct terms, which are too many.
     Keywords(u32),
+    /// The search over a link gives no answer.
+    Search(SearchFault),
     /// The command's own file couldn't be read or written.
     File(FileKind),
     /// The output failed.
@@ -57,16 +65,19 @@ fn status_of_publishing(fault: PublishFault) -> u8
 }
 
 impl Refusal {
-    fn status(self) -> u8
-        ensures { result ≡ status_of self }
+    fn status(&self) -> u8
+        ensures { result ≡ status_of self.now }
     {
         match self {
             Refusal::Words => 2,
-            Refusal::Corpus(fault) => status_of_corpus(fault),
+            Refusal::Corpus(fault) => status_of_corpus(*fault),
             Refusal::CorpusTooLong => 3,
-            Refusal::Publish(fault) => status_of_publishing(fault),
+            Refusal::Publish(fault) => status_of_publishing(*fault),
+            Refusal::LibraryTooLong => 3,
+            Refusal::Library(_) => 3,
             Refusal::Test(_) => 4,
             Refusal::Keywords(_) => 5,
+            Refusal::Search(fault) => status_of_search(fault),
             Refusal::File(_) => 9,
             Refusal::Output => 9,
             Refusal::Memory => 10,
@@ -74,8 +85,8 @@ impl Refusal {
     }
 }
 
-// Puts parts on the error output, up to the first that fails.
-fn put_parts<E: Sink>(parts: &[&str], err: &mut E)
+/// Puts parts on the error output, up to the first that fails.
+pub fn put_parts<E: Sink>(parts: &[&str], err: &mut E)
     ensures later { E.faults err.old ≤ E.faults err.new }
     ensures says { ¬ (Rose (E.faults err.old) (E.faults err.new)) →
         TookWhole (E.put_so_far err.old) (E.put_so_far err.new)
@@ -88,8 +99,8 @@ fn put_parts<E: Sink>(parts: &[&str], err: &mut E)
     }
 }
 
-// Says a text as a line on the error output. Its failure is let go.
-fn say<E: Sink>(parts: &[&str], err: &mut E)
+/// Says a text as a line on the error output. Its failure is let go.
+pub fn say<E: Sink>(parts: &[&str], err: &mut E)
     ensures { let was = sink_state (E.put_so_far err.old) (E.faults err.old) in
         let is = sink_state (E.put_so_far err.new) (E.faults err.new) in
         Says (flat (map (λ part. part.now) parts.now)) was is }
@@ -99,8 +110,8 @@ fn say<E: Sink>(parts: &[&str], err: &mut E)
     put_parts(&["\n"], err);
 }
 
-// Says a text with a number in it.
-fn say_number<E: Sink>(before: &str, number: u128, after: &str, err: &mut E)
+/// Says a text with a number in it.
+pub fn say_number<E: Sink>(before: &str, number: u128, after: &str, err: &mut E)
     ensures { let was = sink_state (E.put_so_far err.old) (E.faults err.old) in
         let is = sink_state (E.put_so_far err.new) (E.faults err.new) in
         Says (with_number before.now number after.now) was is }
@@ -137,8 +148,8 @@ fn say_corpus<E: Sink>(fault: CorpusFault, err: &mut E)
     }
 }
 
-// Says by which comparison a shape fails the test.
-fn say_test<E: Sink>(fault: TestFault, err: &mut E)
+/// Says by which comparison a shape fails the test.
+pub fn say_test<E: Sink>(fault: TestFault, err: &mut E)
     ensures { let was = sink_state (E.put_so_far err.old) (E.faults err.old) in
         let is = sink_state (E.put_so_far err.new) (E.faults err.new) in
         Says (test_text fault) was is }
@@ -209,16 +220,20 @@ pub fn tell<E: Sink>(words: &[String], refusal: Refusal, err: &mut E) -> u8
         let is = sink_state (E.put_so_far err.new) (E.faults err.new) in
         Says (text_of (map string_bytes words.now) refusal) was is }
 {
+    let status = refusal.status();
     match refusal {
         Refusal::Words => say(&["wrong words"], err),
         Refusal::Corpus(fault) => say_corpus(fault, err),
         Refusal::CorpusTooLong => say(&["corpus too long"], err),
         Refusal::Publish(fault) => say_publishing(fault, err),
+        Refusal::LibraryTooLong => say(&["library too long"], err),
+        Refusal::Library(place) => say_number("library: wrong at byte ", place as u128, "", err),
         Refusal::Test(fault) => say_test(fault, err),
         Refusal::Keywords(found) => say_number("", found as u128, " keywords, at most 16", err),
+        Refusal::Search(fault) => say_search(&fault, err),
         Refusal::File(kind) => say(&["file ", name_of(kind, words)], err),
         Refusal::Output => say(&["output"], err),
         Refusal::Memory => say(&["memory"], err),
     }
-    refusal.status()
+    status
 }

@@ -1,8 +1,10 @@
 //! The words of the command line: a command, its positional words, options in any order, a query.
-ghost use Rattle.std.specs.Prelude.{◌≡◌, ◌++◌, IfOk, string_bytes, map, option_map};
+ghost use Rattle.std.specs.Prelude.{◌≡◌, ◌++◌, IfOk, IfSome, string_bytes, map, option_map};
 ghost use Rattle.coeus.specs.Words.{plain_words, import_words, settings_of, shape_words};
+ghost use Rattle.coeus.specs.Words.{local_words};
 ghost use Rattle.coeus.specs.Words.{spoken, joined};
-ghost use Rattle.coeus.specs.Commands.{command_shown, plain_shown, import_shown, rest_shown};
+ghost use Rattle.coeus.specs.Commands.{command_shown, plain_shown, import_shown, local_shown};
+ghost use Rattle.coeus.specs.Commands.{rest_shown, IsWithinRanges, AreWithinRanges};
 
 use crate::limits::{DEFAULT_CHUNKS, DEFAULT_DEGREE, DEFAULT_HITS, DEFAULT_SALT, DEFAULT_TERMS};
 use crate::options::{OptionsAndQuery, read_options, read_short};
@@ -36,12 +38,26 @@ pub struct ImportCommand<'a> {
     pub settings: Settings,
 }
 
+/// What `local LIBRARY` is to do.
+#[derive(Clone, Copy)]
+pub struct LocalCommand<'a> {
+    /// The name of the library file.
+    pub library: &'a str,
+    /// The rank of the hit whose document is printed, from 1.
+    pub pick: u32,
+    /// How many workers compute a reply.
+    pub workers: u32,
+    /// The words of the query.
+    pub query: &'a [String],
+}
+
 /// What the words of the command line ask for.
 #[derive(Clone, Copy)]
 pub enum Command<'a> {
     Plain(PlainCommand<'a>),
     Import(ImportCommand<'a>),
     Shape(Shape),
+    Local(LocalCommand<'a>),
     /// Nothing that is in the grammar.
     Wrong,
 }
@@ -49,7 +65,8 @@ pub enum Command<'a> {
 /// Reads a command, the words behind it, and what they say.
 #[tactic(auto, unfolding(crate::specs::Words::spoken))]
 pub fn read_command(words: &[String]) -> Command<'_>
-    ensures { command_shown result ≡ spoken (map string_bytes words.now) }
+    ensures value { command_shown result ≡ spoken (map string_bytes words.now) }
+    ensures ranges { AreWithinRanges result }
 {
     let [command, words @ ..] = words else {
         return Command::Wrong;
@@ -70,6 +87,11 @@ pub fn read_command(words: &[String]) -> Command<'_>
             Some(shape) => Command::Shape(shape),
             None => Command::Wrong,
         }
+    } else if command == "local" {
+        match read_local(words) {
+            Some(command) => Command::Local(command),
+            None => Command::Wrong,
+        }
     } else {
         Command::Wrong
     }
@@ -87,6 +109,9 @@ fn read_plain(words: &[String]) -> Option<PlainCommand<'_>>
     }
     let rest = read_options(rest)?;
     let query = rest.query?;
+    if !rest.options.are_for_plain() {
+        return None;
+    }
     let pick = rest.options.pick()?;
     Some(PlainCommand {
         corpus: corpus.as_str(),
@@ -97,11 +122,37 @@ fn read_plain(words: &[String]) -> Option<PlainCommand<'_>>
     })
 }
 
-// The settings among options, where no pick and no query was given.
+// Reads LIBRARY, options, `--` and a query.
+fn read_local(words: &[String]) -> Option<LocalCommand<'_>>
+    ensures value { option_map local_shown result ≡ local_words (map string_bytes words.now) }
+    ensures ranges { IfSome result IsWithinRanges }
+{
+    let [library, rest @ ..] = words else {
+        return None;
+    };
+    if library.as_str().starts_with('-') {
+        return None;
+    }
+    let rest = read_options(rest)?;
+    let query = rest.query?;
+    if !rest.options.are_for_local() {
+        return None;
+    }
+    let pick = rest.options.pick()?;
+    let workers = rest.options.workers()?;
+    Some(LocalCommand {
+        library: library.as_str(),
+        pick,
+        workers,
+        query,
+    })
+}
+
+// The settings among options, where no option of a search and no query was given.
 fn settings_of(rest: OptionsAndQuery<'_>) -> Option<Settings>
     ensures { result ≡ settings_of (rest_shown rest.entry) }
 {
-    if rest.options.pick.is_some() || rest.query.is_some() {
+    if rest.options.pick.is_some() || rest.options.workers.is_some() || rest.query.is_some() {
         return None;
     }
     Some(Settings {

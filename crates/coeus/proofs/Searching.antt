@@ -1,0 +1,237 @@
+-- What `local` leaves and says, from what its search gave.
+use Rattle.std.proofs.Common.{◌≡◌, ◌⊎◌, ◌<◌, ℕ, List, [], ◌∷◌, length, Option, Some, None, Ok, Err, refl, sym, ap, subst, ◌∙◌, inl, inr, arith}
+use Rattle.std.specs.Prelude.{Result, IsSome, IfOk, IfErr}
+use Rattle.std.proofs.lemmas.List.{length-map}
+use Rattle.rand_core.specs.Stream.{Stream}
+use Rattle.co_link.specs.Causes.{Rose}
+use Rattle.co_link.specs.Files.{Folder, file_at, IsLonger}
+use Rattle.co_link.specs.declared.files.FileKind.TheVariants.{Read}
+use Rattle.co_link.specs.declared.messages.Exchange.{Exchange}
+use Rattle.co_noise.specs.Shapes.{Numbers}
+use Rattle.co_noise.specs.Bounds.{test_of}
+use Rattle.co_text.specs.Terms.{terms}
+use Rattle.co_text.specs.declared.found.Found.{Found}
+use Rattle.co_text.specs.declared.ranks.Ranked.{Ranked}
+use Rattle.co_corpus.specs.declared.documents.Document.{Document}
+use Rattle.co_bucket.specs.Placement.{IsAssignment}
+use Rattle.co_bucket.proofs.OneAnswer.{refuses}
+use Rattle.co_library.specs.declared.settings.Settings.{Settings}
+use Rattle.co_library.specs.Libraries.{Parts, IsLibrary}
+use Rattle.co_library.specs.Files.{library_in, library_bytes}
+use Rattle.co_library.proofs.FileFormat.{is_read_again}
+use Rattle.co_library.proofs.Ascending.{file_few}
+use Rattle.co_rounds.specs.Honest.{AreHonest}
+use Rattle.co_rounds.specs.Plans.{made, FollowsPlan, IsWholePlan}
+use Rattle.co_rounds.specs.Placing.{choices_of, CanBePlaced, IsUnplaced}
+use Rattle.co_rounds.specs.Recording.{IsLibraryFor}
+use Rattle.co_client.specs.Causes.{Search, Publishes, IsRead, IsCause, IsAnswered, Asks}
+use Rattle.co_client.specs.Going.{GoesOn}
+use Rattle.co_client.specs.Plain.{AnswersPlainly, plain_hits}
+use Rattle.co_client.specs.declared.fault.SearchFault.{SearchFault}
+use Rattle.co_client.specs.declared.fault.SearchFault.TheVariants as searching
+use Rattle.coeus.specs.declared.limits.TheConstants.{MAX_LIBRARY}
+use Rattle.coeus.specs.declared.refusals.Refusal.{Refusal}
+use Rattle.coeus.specs.declared.refusals.Refusal.TheVariants.{Library, LibraryTooLong, Test, Search as Unsearched, File, Output, Memory}
+use Rattle.coeus.specs.Words.{SpokenLocal, LocalWords, joined}
+use Rattle.coeus.specs.Outside.{Outside, FilesState, HasNoFault}
+use Rattle.coeus.specs.Refusals.{status_of, status_of_refused}
+use Rattle.coeus.specs.Imports.{HasImport}
+use Rattle.coeus.specs.Locals.{HasLibraryFile, CanBeServed, OpenCause, search_for, IsSearched, Searched, HasFound, FindCause, LocalAnswer, LocalCause, LocalDue}
+use Rattle.coeus.specs.Runs.{Answered, RefusedBy}
+use Rattle.coeus.proofs.Drawing.{is_drawn}
+use Rattle.coeus.proofs.Outcomes.{differ, same_value}
+
+-- ---- files
+
+same_bytes : (a b : List ℕ) → Some (Some a) ≡ Some (Some b) → a ≡ b
+same_bytes a b same = cc
+
+-- the bytes of a file are those that the files tell
+told_bytes : (held : Option Folder) (name bytes told : List ℕ) → (IsSome held → file_at held name ≡ Some (Some bytes)) → file_at held name ≡ Some (Some told)
+    → bytes ≡ told
+told_bytes None name bytes told stands is = let none : None ≡ Some (Some told) = is in absurd cc
+told_bytes (Some folder) name bytes told stands is = same_bytes bytes told (sym (stands refl) ∙ is)
+
+-- files that tell of a name tell
+tells : (held : Option Folder) (name bytes : List ℕ) → file_at held name ≡ Some (Some bytes) → IsSome held
+tells None name bytes is = let none : None ≡ Some (Some bytes) = is in absurd cc
+tells (Some folder) name bytes is = refl
+
+-- what `import` wrote is read as the library that it is
+imported : (held : Option Folder) (name bytes : List ℕ) (documents : List Document) (settings : Settings) (library : Parts)
+    → (IsSome held → file_at held name ≡ Some (Some bytes)) → HasImport held name documents settings library → library_in bytes ≡ Ok library
+imported held name bytes documents settings library stands i =
+    ap library_in (told_bytes held name bytes (library_bytes library) stands i.stands) ∙ is_read_again library i.of_corpus.built.good
+
+same_library : (held : Option Folder) (name : List ℕ) (documents : List Document) (settings : Settings) (library other : Parts)
+    → HasLibraryFile held name library → HasImport held name documents settings other → library ≡ other
+same_library held name documents settings library other f i =
+    same_value (library_in f.bytes) library other f.read (imported held name f.bytes documents settings other f.file.stands i)
+
+-- ---- the search
+
+-- a search for the terms of a text, over a link that never fails
+abbrev pub for_text : List ℕ → ℕ → Stream → Search
+for_text text pick random = record { query = terms text; pick = pick; stream = random; before = 0; now = 0; last_failed = None }
+
+-- of a new link all exchanges are those of the search
+pub searched_over : (p : LocalWords) (library : Parts) (was is : Stream) (result : Result Found SearchFault) (text : List ℕ) (before now : List Exchange)
+    → text ≡ joined p.query → before ≡ [] → IsLibrary library → AreHonest library None now
+    → ((es : List Exchange) → made (Some before) (Some now) ≡ Some es → FollowsPlan es)
+    → ((es : List Exchange) → made (Some before) (Some now) ≡ Some es → IsAnswered result → IsWholePlan es)
+    → ((es : List Exchange) → made (Some before) (Some now) ≡ Some es → GoesOn (for_text text p.pick was) es)
+    → ((es : List Exchange) → made (Some before) (Some now) ≡ Some es → IfOk result (IsRead (for_text text p.pick was) es))
+    → ((es : List Exchange) → made (Some before) (Some now) ≡ Some es → IfErr result (IsCause (for_text text p.pick was) es))
+    → ((es : List Exchange) → made (Some before) (Some now) ≡ Some es → (s : Numbers) (ts : List (List ℕ)) → Publishes es s ts → test_of s ≡ Ok s
+    → Asks (for_text text p.pick was) es s ts result is)
+    → ((es : List Exchange) → made (Some before) (Some now) ≡ Some es → (documents : List Document) (settings : Settings) (l : Parts) (held : Option (List ℕ))
+    → IsLibraryFor documents settings l → AreHonest l held es → AnswersPlainly documents settings l (terms text) p.pick result)
+    → IsSearched p library was is result
+searched_over p library was is result text before now same new good honest planned whole going read refused asked plain =
+    let all : made (Some before) (Some now) ≡ Some now = ap (λ (es : List Exchange). made (Some es) (Some now)) new in
+    let goes = subst (λ (t : List ℕ). GoesOn (for_text t p.pick was) now) same (going now all) in
+    let reads = subst (λ (t : List ℕ). IfOk result (IsRead (for_text t p.pick was) now)) same (read now all) in
+    let refuses = subst (λ (t : List ℕ). IfErr result (IsCause (for_text t p.pick was) now)) same (refused now all) in
+    let asks : (s : Numbers) (ts : List (List ℕ)) → Publishes now s ts → test_of s ≡ Ok s → Asks (search_for p was) now s ts result is =
+    λ s ts publishes passes. subst (λ (t : List ℕ). Asks (for_text t p.pick was) now s ts result is) same (asked now all s ts publishes passes) in
+    record {
+      exchanges = now;
+      honest = honest;
+      planned = planned now all;
+      whole = whole now all;
+      going = goes;
+      read = reads;
+      refused = refuses;
+      asked = asks;
+      drawn = is_drawn p library was is result now good honest (whole now all) goes reads refuses asks;
+      plain = λ documents settings built. subst (λ (t : List ℕ). AnswersPlainly documents settings library (terms t) p.pick result) same
+          (plain now all documents settings library None built honest);
+    }
+
+no_exchange : {A : Type 0} (x : A) (xs : List A) → [] ≡ x ∷ xs → ⊥
+no_exchange x xs same = absurd cc
+
+-- a search that isn't begun, for want of memory
+pub not_begun : (p : LocalWords) (library : Parts) (random : Stream) → IsSearched p library random random (Err searching.OutOfMemory)
+not_begun p library random = record {
+  exchanges = [];
+  honest = tt;
+  planned = refl;
+  whole = λ answered. absurd answered;
+  going = record {
+    few = λ some. absurd (omega (arith, some));
+    tested = λ s ts publishes more. absurd (no_exchange publishes.first publishes.others publishes.are);
+    taken = λ number e is more. absurd (omega (arith, more));
+  };
+  read = tt;
+  refused = tt;
+  asked = λ s ts publishes passes. absurd (no_exchange publishes.first publishes.others publishes.are);
+  drawn = λ answered. absurd answered;
+  plain = λ documents settings built. tt;
+}
+
+-- a search in the library of a file
+in_file : (p : LocalWords) (held : Option Folder) (was is : Stream) (result : Result Found SearchFault) (library : Parts) → CanBeServed held p.library library
+    → IsSearched p library was is result → Searched p held was is result
+in_file p held was is result library served search = record {
+  library = library;
+  served = served;
+  search = search;
+  plain = λ documents settings other i.
+      let same : library ≡ other = same_library held p.library documents settings library other served.file i in
+      subst (λ (l : Parts). AnswersPlainly documents settings l (terms (joined p.query)) p.pick result) same
+      (search.plain documents settings (subst (λ (l : Parts). IsLibraryFor documents settings l) (sym same) i.of_corpus));
+}
+
+-- ---- how the command ends
+
+pub not_opened : (p : LocalWords) (was is : FilesState) (random left : Stream) (refusal : Refusal) → OpenCause p.library was is refusal
+    → LocalCause p was is random left refusal
+not_opened p was is random left (Library place) cause = cause
+not_opened p was is random left LibraryTooLong cause = cause
+not_opened p was is random left (Test fault) cause = cause
+not_opened p was is random left (File Read) cause = cause
+not_opened p was is random left Memory cause = tt
+not_opened p was is random left refusal cause = absurd cause
+
+-- a link that never fails is no cause
+unsearched : (p : LocalWords) (was is : FilesState) (random left : Stream) (fault : SearchFault) → Searched p was.held random left (Err fault)
+    → LocalCause p was is random left (Unsearched fault)
+unsearched p was is random left searching.Link s = absurd (omega (arith, s.search.refused.rose))
+unsearched p was is random left fault s = s
+
+searched : (p : LocalWords) (was is : FilesState) (random left : Stream) (fault : SearchFault) → LocalCause p was is random left (Unsearched fault)
+    → Searched p was.held random left (Err fault)
+searched p was is random left searching.Link cause = absurd cause
+searched p was is random left fault cause = cause
+
+pub not_found : (p : LocalWords) (was is : FilesState) (random left : Stream) (library : Parts) (refusal : Refusal) → CanBeServed was.held p.library library
+    → FindCause p library random left refusal → LocalCause p was is random left refusal
+not_found p was is random left library (Unsearched fault) served cause =
+    unsearched p was is random left fault (in_file p was.held random left (Err fault) library served cause)
+not_found p was is random left library Memory served cause = tt
+not_found p was is random left library refusal served cause = absurd cause
+
+pub found_text : (p : LocalWords) (held : Option Folder) (was is : Stream) (library : Parts) (text : List ℕ) → CanBeServed held p.library library
+    → HasFound p library was is text → LocalAnswer p held was is text
+found_text p held was is library text served h =
+    record { found = h.found; searched = in_file p held was is (Ok h.found) library served h.search; text_is = h.text_is }
+
+pub local_refused : (p : LocalWords) (was is : Outside) (refusal : Refusal) → LocalCause p was.files is.files was.random is.random refusal
+    → is.out.bytes ≡ was.out.bytes → is.files.held ≡ was.files.held → RefusedBy (SpokenLocal p) was is refusal
+local_refused p was is (Library place) cause out files = record { cause = cause; out = out; files = files; draws = tt }
+local_refused p was is LibraryTooLong cause out files = record { cause = cause; out = out; files = files; draws = tt }
+local_refused p was is (Test fault) cause out files = record { cause = cause; out = out; files = files; draws = tt }
+local_refused p was is (Unsearched fault) cause out files = record { cause = cause; out = out; files = files; draws = tt }
+local_refused p was is (File Read) cause out files = record { cause = cause; out = out; files = files; draws = tt }
+local_refused p was is Memory cause out files = record { cause = cause; out = out; files = files; draws = tt }
+local_refused p was is refusal cause out files = absurd cause
+
+-- ---- the status that is due
+
+-- an answer comes only where the hits can be placed
+pub local_placed : (p : LocalWords) (was is : Outside) → Answered (SpokenLocal p) was is → (due : ℕ) → LocalDue p was.files.held due → due ≡ 0
+local_placed p was is a due d = d.placed (a.prints.searched.plain d.documents d.settings d.library d.file).1
+
+-- a file that is told and was written by `import` is read, but for faults and want of memory
+open_due : (name : List ℕ) (was is : FilesState) (documents : List Document) (settings : Settings) (library : Parts) (refusal : Refusal)
+    → HasImport was.held name documents settings library → test_of library.shape ≡ Ok library.shape → (¬ Rose was.faults is.faults)
+    → OpenCause name was is refusal → status_of refusal ≡ 10
+open_due name was is documents settings library (Library place) i passes kept cause =
+    absurd (differ library place (library_in cause.bytes) (imported was.held name cause.bytes documents settings library cause.file.stands i) cause.unread)
+open_due name was is documents settings library LibraryTooLong i passes kept cause =
+    let long : MAX_LIBRARY < length (library_bytes library) = subst (IsLonger MAX_LIBRARY) i.stands (cause (tells was.held name (library_bytes library) i.stands)) in
+    absurd (omega (arith, long, file_few library i.of_corpus.built.good))
+open_due name was is documents settings library (Test fault) i passes kept cause =
+    let same = same_library was.held name documents settings cause.library library cause.file i in
+    absurd (differ library.shape fault (test_of library.shape) passes (ap (λ (l : Parts). test_of l.shape) (sym same) ∙ cause.fails))
+open_due name was is documents settings library (File Read) i passes kept cause = absurd (kept cause.rose)
+open_due name was is documents settings library Memory i passes kept cause = refl
+open_due name was is documents settings library refusal i passes kept cause = absurd cause
+
+-- no placement where the hits can be placed
+misplaced : (s : Numbers) (documents buckets : List ℕ) (hits : List Ranked) → IsUnplaced s hits documents buckets → CanBePlaced s hits → ⊥
+misplaced s documents buckets hits u c =
+    refuses (choices_of s hits) u.ranks buckets c.choices u.witness
+    (subst (λ (n : ℕ). IsAssignment (choices_of s hits) n c.choices) (sym (length-map hits _)) c.assigns)
+
+search_due : (p : LocalWords) (held : Option Folder) (random : Stream) (es : List Exchange) (fault : SearchFault) (due : ℕ) (d : LocalDue p held due)
+    → AnswersPlainly d.documents d.settings d.library (terms (joined p.query)) p.pick (Err fault) → IsCause (for_text (joined p.query) p.pick random) es fault
+    → (status_of (Unsearched fault) ≡ due) ⊎ (status_of (Unsearched fault) ≡ 10)
+search_due p held random es (searching.NoPlacement documents buckets) due d plain cause =
+    inl (sym (d.unplaced (λ placed. misplaced d.library.shape documents buckets (plain_hits d.documents d.settings (terms (joined p.query))) plain placed)))
+search_due p held random es (searching.TooManyKeywords number) due d plain cause = absurd (omega (arith, d.few, plain))
+search_due p held random es (searching.Test fault) due d plain cause =
+    absurd (differ d.library.shape fault (test_of d.library.shape) d.passes plain)
+search_due p held random es (searching.Refused target status) due d plain cause = inr (ap status_of_refused plain)
+search_due p held random es searching.Link due d plain cause = absurd (omega (arith, cause.rose))
+search_due p held random es searching.OutOfMemory due d plain cause = inr refl
+search_due p held random es fault due d plain cause = absurd plain
+
+pub local_due : (p : LocalWords) (was is : Outside) (refusal : Refusal) → HasNoFault was is → RefusedBy (SpokenLocal p) was is refusal
+    → (due : ℕ) → LocalDue p was.files.held due → (status_of refusal ≡ due) ⊎ (status_of refusal ≡ 10)
+local_due p was is Output kept r due d = absurd (kept.out r.took.rose)
+local_due p was is (Unsearched fault) kept r due d =
+    let s = searched p was.files is.files was.random is.random fault r.cause in
+    search_due p was.files.held was.random s.search.exchanges fault due d (s.plain d.documents d.settings d.library d.file) s.search.refused
+local_due p was is refusal kept r due d = inr (open_due p.library was.files is.files d.documents d.settings d.library refusal d.file d.passes kept.files r.cause)
