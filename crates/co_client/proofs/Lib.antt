@@ -27,4 +27,6 @@ pub mod Messages
 pub mod Ends
 pub mod RecordFaults
 pub mod Finishes
+pub mod Checked
+pub mod Conducted
 pub mod Tells_plainly

@@ -9,7 +9,7 @@ use Rattle.co_math.specs.Parameters.{q, digit_count}
 use Rattle.co_math.specs.Logarithms.{log2_up}
 use Rattle.co_math.proofs.Residue_lists.{length-residues_of}
 use Rattle.co_noise.specs.Shapes.{Numbers, levels}
-use Rattle.co_bfv.specs.Draws.{secret_draw, uniform_draw, error_draw, encryption_draw}
+use Rattle.co_bfv.specs.Draws.{ternary_draw, secret_draw, uniform_draw, error_draw, encryption_draw}
 use Rattle.co_bfv.specs.Encryptions.{encrypted}
 use Rattle.co_bfv.proofs.Drawn.{length-drawn}
 use Rattle.co_switch.specs.Keys.{Key, Keys, rotation_element, expansion_element}
@@ -100,7 +100,7 @@ pub keys-size : (s : Numbers) (stream : Stream) → length (keys_bytes (keys_ask
 unfolding keys_asked key_set_draw secret_draw
 keys-size s stream =
     let secret = secret_draw s.degree stream in
-    let n : length secret.0 ≡ s.degree = length-drawn _ s.degree stream in
+    let n : length secret.0 ≡ s.degree = length-drawn ternary_draw s.degree stream in
     let rotations = keys_draw secret.0 (rotation_element (length secret.0)) (log2_up (length secret.0 / 2)) secret.1 in
     let expansions = keys_draw secret.0 (expansion_element (length secret.0)) (levels s) rotations.1 in
     let a = keys-drawn secret.0 (rotation_element (length secret.0)) (log2_up (length secret.0 / 2)) secret.1 in
