@@ -2,6 +2,7 @@ pub mod Results
 pub mod Spelled
 pub mod Ranged
 pub mod Opened
+pub mod Readings
 pub mod Firsts
 pub mod Drawn
 pub mod Scores
