@@ -346,10 +346,6 @@ read_records-requires-clause-places g c =
     let shape_is : c.shape-shape.result.now ≡ c.in-Ok-start.reader.shape = c.shape-shape.ensures.value ∙ c.tested.ensures in
     c.as_slice-asked.ensures.value ∙ c.in-Ok-places.ensures.value ∙ ap (λ (x : Numbers). places_asked x c.shown-shown.result.now c.by_bucket-placed.result.now) shape_is
 
-pub bin_of-bin-requires : goal.bin_of-bin-requires
-bin_of-bin-requires g c =
-    c.requires.pick.0
-
 pub fetch-requires-clause-ready : goal.fetch-requires-clause-ready
 fetch-requires-clause-ready g c =
     c.gather.ensures.ready
