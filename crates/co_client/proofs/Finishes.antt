@@ -346,9 +346,10 @@ module _ (run : Search) (was : Option (List Exchange)) (now : Option (List Excha
         unplaced-told documents buckets left is at_end = record {
           exchanges = all;
           makes = makes-five;
-          tells = tells-all run s b.terms b.messages (first_of b.body) rows bin b.few b.read b.passes b.are long (keys_of s run.stream ∷ third ∷ fourth_of ∷ fifth_of ∷ []) (record { requests = refl }) (rows-five (reply_with 200 reply5)) good-five (Err (NoPlacement documents buckets)) left refl at_end tt
-              (record { shape = s; terms = b.terms; hits = hits; ranked = reads-hits (fourth_of ∷ fifth_of ∷ []); unplaced = subst (λ (x : Placing). IsPlacing s hits x) is placed },
-              trail-whole s b.terms b.messages rows bin run.stream (first_of b.body) (keys_of s run.stream ∷ third ∷ fourth_of ∷ fifth_of ∷ []) b.are.count long b.read refl (record { requests = refl }));
+          tells = tells-all run s b.terms b.messages (first_of b.body) rows bin b.few b.read b.passes b.are long (keys_of s run.stream ∷ third ∷ fourth_of ∷ fifth_of ∷ []) (record { requests = refl }) (rows-five (reply_with 200 reply5)) good-five (Err (NoPlacement documents buckets)) left refl at_end tt (
+            record { shape = s; terms = b.terms; hits = hits; ranked = reads-hits (fourth_of ∷ fifth_of ∷ []); unplaced = subst (λ (x : Placing). IsPlacing s hits x) is placed },
+            trail-whole s b.terms b.messages rows bin run.stream (first_of b.body) (keys_of s run.stream ∷ third ∷ fourth_of ∷ fifth_of ∷ []) b.are.count long b.read refl (record { requests = refl }),
+          );
         }
 
         -- either of both

@@ -70,8 +70,16 @@ pairs-size n [] ys e a b = omega arith
 pairs-size n (x ∷ xs) [] e a b = absurd (omega arith)
 pairs-size n (x ∷ xs) (y ∷ ys) e a b =
     let P = λ (p : List ℕ). length p ≡ n in
-    omega (arith, length-append (polynomial_bytes x) (polynomial_bytes y ++ pairs_bytes xs ys), length-append (polynomial_bytes y) (pairs_bytes xs ys), polynomial-long x, polynomial-long y, All-head P x xs a, All-head P y ys b,
-    pairs-size n xs ys (omega arith) (All-tail P x xs a) (All-tail P y ys b))
+    omega (
+      arith,
+      length-append (polynomial_bytes x) (polynomial_bytes y ++ pairs_bytes xs ys),
+      length-append (polynomial_bytes y) (pairs_bytes xs ys),
+      polynomial-long x,
+      polynomial-long y,
+      All-head P x xs a,
+      All-head P y ys b,
+      pairs-size n xs ys (omega arith) (All-tail P x xs a) (All-tail P y ys b),
+    )
 
 key-size : (secret : List ℤ) (g : ℕ) (s : Stream) → length (key_bytes (key_draw secret g s).0) ≡ 6 * (28 * length secret)
 unfolding key_draw

@@ -29,4 +29,3 @@ pub record Told (run : Search) (was now : Option (List Exchange)) (result : Resu
   pub exchanges : List Exchange
   pub makes : Makes was now exchanges
   pub tells : Tells run exchanges result left
-
