@@ -451,7 +451,13 @@ fn check(scheme: &Scheme, chance: &mut Chance) {
     }
 }
 
+/// Takes and frees as much as a client's keys take on their way: a program that has done so keeps what it frees.
+fn begin() {
+    drop(black_box(vec![0u8; 1 << 24]));
+}
+
 fn main() {
+    begin();
     let mut chance = Chance(7);
     let scheme = Scheme {
         tables: [Table::new(FIRST), Table::new(SECOND)],
