@@ -1,5 +1,5 @@
 -- Records that are read stand one beside each hit, and name places inside the bins.
-use Rattle.std.proofs.Common.{◌≡◌, ℕ, zero, suc, ◌+◌, ◌<◌, refl, sym, ap, subst, ◌∙◌, arith, Bool, true, false, cond, eqb, ℤ, List, [], ◌∷◌, length, take, drop, Option, Result, Ok, Err}
+use Rattle.std.proofs.Common.{◌≡◌, ℕ, zero, suc, ◌+◌, refl, sym, ap, subst, ◌∙◌, arith, Bool, true, false, cond, eqb, ℤ, List, [], ◌∷◌, length, take, drop, Option, Result, Ok, Err}
 use Rattle.std.specs.Prelude.{All}
 use Rattle.co_noise.specs.Shapes.{Numbers}
 use Rattle.co_bfv.specs.Ciphertexts.{Ciphertext}

@@ -1,11 +1,10 @@
 -- A search round by round, by what its calls give: what it tells where one of them gives nothing, and at its end.
-use Rattle.std.proofs.Common.{◌≡◌, ℕ, zero, suc, ◌+◌, ◌*◌, ◌<◌, ◌≤◌, refl, sym, ap, subst, ◌∙◌, arith, Bool, true, false, cond, eqb, ◌-◌, ℤ, List, [], ◌∷◌, length, get_or, map, Option, Some, None, Result, Ok, Err}
-use Rattle.std.specs.Prelude.{All, IfOk, IfErr, slice_get, slice_index_or}
+use Rattle.std.proofs.Common.{◌≡◌, ℕ, zero, suc, ◌*◌, ◌<◌, ◌≤◌, refl, sym, ap, subst, ◌∙◌, arith, Bool, true, false, cond, eqb, ◌-◌, List, [], ◌∷◌, length, map, Option, Some, None, Result, Ok, Err}
+use Rattle.std.specs.Prelude.{All, IfErr, slice_get, slice_index_or}
 use Rattle.std.proofs.lemmas.Option.{none-some, same_Some}
 use Rattle.std.proofs.lemmas.List.Elements.{All-head, All-tail}
 use Rattle.std.proofs.lemmas.List.{length-map}
 use Rattle.rand_core.specs.Stream.{Stream}
-use Rattle.co_link.specs.Causes.{Rose}
 use Rattle.co_link.specs.Exchanges.{LinkCall}
 use Rattle.co_link.specs.declared.messages.Target.TheVariants as targets_of
 use Rattle.co_link.specs.declared.messages.Request.{Request}
@@ -31,7 +30,7 @@ use Rattle.co_client.specs.declared.publishing.Published.{Published}
 use Rattle.co_client.specs.declared.placing.Placing.{Placing}
 use Rattle.co_client.specs.declared.placing.Placing.TheVariants.{Placed, Unplaced}
 use Rattle.co_client.specs.Causes.{Search, IsCause, IsCauseUntold, secret_of}
-use Rattle.co_client.specs.Faults.{is_want, IsReadAs}
+use Rattle.co_client.specs.Faults.{IsReadAs}
 use Rattle.co_client.specs.Telling.{Told}
 use Rattle.co_client.specs.Published.{Consults, PublicFails}
 use Rattle.co_client.specs.Placings.{IsPlacing, by_bucket, shown_of, concluded, HaveBuckets, places_asked}

@@ -1,16 +1,14 @@
 -- Where a search ends, and what it tells there.
-use Rattle.std.proofs.Common.{◌≡◌, ◌≢◌, ℕ, zero, suc, ◌+◌, ◌*◌, ◌<◌, ◌≤◌, ◌⊎◌, inl, inr, min, Bool, true, false, refl, sym, ap, subst, ◌∙◌, ⊎_elim, arith, ℤ, List, [], ◌∷◌, ◌++◌, length, get_or, map, take, Option, Some, None, Result, Ok, Err}
-use Rattle.std.specs.Prelude.{All, IfOk, IfErr, slice_get}
-use Rattle.std.specs.List.{range_with_len}
+use Rattle.std.proofs.Common.{◌≡◌, ◌≢◌, ℕ, zero, suc, ◌<◌, ◌≤◌, inl, inr, refl, sym, ap, subst, ◌∙◌, ⊎_elim, arith, List, [], ◌∷◌, length, get_or, take, Option, Result, Ok, Err}
+use Rattle.std.specs.Prelude.{All}
 use Rattle.std.proofs.lemmas.Bool.{cases_lt}
 use Rattle.std.proofs.lemmas.List.{get_or_past}
 use Rattle.std.proofs.lemmas.List.FromFn.{length-map-range_with_len}
 use Rattle.rand_core.specs.Stream.{Stream}
-use Rattle.co_link.specs.Exchanges.{LinkCall, exchange_of}
+use Rattle.co_link.specs.Exchanges.{exchange_of}
 use Rattle.co_link.specs.declared.messages.Target.{Target}
 use Rattle.co_link.specs.declared.messages.Target.TheVariants as targets_of
 use Rattle.co_link.specs.declared.messages.Request.{Request}
-use Rattle.co_link.specs.declared.messages.Reply.{Reply}
 use Rattle.co_link.specs.declared.messages.Exchange.{Exchange}
 use Rattle.co_noise.specs.Shapes.{Numbers}
 use Rattle.co_math.specs.Coefficients.{AreBelow, IsDegree}
@@ -21,7 +19,6 @@ use Rattle.co_bucket.specs.Lists.{bucket_count}
 use Rattle.co_text.specs.Terms.{distinct}
 use Rattle.co_text.specs.Numbers.{numbers_of, unknown_in}
 use Rattle.co_text.specs.declared.found.Found.{Found}
-use Rattle.co_text.specs.declared.ranks.Ranked.{Ranked}
 use Rattle.co_wire.specs.Reading.{headed}
 use Rattle.co_wire.specs.Public.{ArePublic, fields, public_word, public_bytes, public_of}
 use Rattle.co_wire.specs.Lengths.{reply_size, reply_limit, most_public}
@@ -40,8 +37,8 @@ use Rattle.co_client.specs.Telling.{Makes, Tells, Told}
 use Rattle.co_client.specs.Published.{public_request, Consults, PublicFails}
 use Rattle.co_client.specs.Rounds.{Comes, RoundFails, LinkFails, keys_request, queries_request}
 use Rattle.co_client.proofs.Messages.{has-messages}
-use Rattle.co_client.proofs.Trails.{makes-none, makes-one, makes-same, trail-asks, score_request, record_request, bin_request, IsTrail}
-use Rattle.co_client.proofs.Told.{AreRowsOf, early-rows, tells-here, round-told}
+use Rattle.co_client.proofs.Trails.{makes-none, makes-one, makes-same, trail-asks, score_request, IsTrail}
+use Rattle.co_client.proofs.Told.{for-few, early-rows, round-told}
 
 -- ---- before any request
 
@@ -56,6 +53,7 @@ many-cause run (TooManyKeywords found) h = record {
   refused = (h.0, h.1, refl);
   asked = λ s ts p t. absurd (no_first p.first p.others p.are);
   goes = record { few = λ l. absurd (omega arith); tested = λ s ts p l. absurd (omega arith); taken = λ number e at l. absurd (omega arith) };
+  few = tt;
 }
 many-cause run OutOfMemory h = record {
   follows = refl;
@@ -64,6 +62,7 @@ many-cause run OutOfMemory h = record {
   refused = tt;
   asked = λ s ts p t. absurd (no_first p.first p.others p.are);
   goes = record { few = λ l. absurd (omega arith); tested = λ s ts p l. absurd (omega arith); taken = λ number e at l. absurd (omega arith) };
+  few = tt;
 }
 many-cause run (BadPublic place) h = absurd h
 many-cause run (Test fault) h = absurd h
@@ -182,6 +181,7 @@ public-tells run e fault left is few open_end cause known = record {
         left_is = λ a. absurd (open_end a);
       };
   goes = record { few = λ l. few; tested = λ s ts p l. absurd (omega arith); taken = λ number x at l. absurd (omega arith) };
+  few = for-few (length (distinct run.query)) few (Err fault);
 }
 
 no_result : {A : Type 0} (x : A) (place : ℕ) → Err place ≡ Ok x → ⊥
@@ -230,6 +230,7 @@ public-told run was now Link left few h l =
         };
         asked = λ s ts p t. absurd (no_first p.first p.others p.are);
         goes = record { few = λ u. absurd (omega arith); tested = λ s ts p u. absurd (omega arith); taken = λ number e at u. absurd (omega arith) };
+        few = few;
       };
     }
 public-told run was now OutOfMemory left few (inl h) l = record {
@@ -242,6 +243,7 @@ public-told run was now OutOfMemory left few (inl h) l = record {
     refused = tt;
     asked = λ s ts p t. absurd (no_first p.first p.others p.are);
     goes = record { few = λ u. absurd (omega arith); tested = λ s ts p u. absurd (omega arith); taken = λ number e at u. absurd (omega arith) };
+    few = tt;
   };
 }
 public-told run was now OutOfMemory left few (inr h) l = record {

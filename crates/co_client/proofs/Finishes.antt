@@ -1,8 +1,8 @@
 -- Where a search ends behind its scores, and what it tells there.
-use Rattle.std.proofs.Common.{◌≡◌, ◌≢◌, ℕ, zero, suc, ◌+◌, ◌*◌, ◌/◌, ◌<◌, ◌≤◌, ◌⊎◌, inl, inr, ◌-◌, Bool, true, false, cond, eqb, refl, sym, ap, subst, ◌∙◌, arith, ℤ, List, [], ◌∷◌, ◌++◌, length, get_or, map, take, Option, Some, None, Result, Ok, Err}
-use Rattle.std.specs.Prelude.{All, IfOk, IfErr, slice_get}
+use Rattle.std.proofs.Common.{◌≡◌, ◌≢◌, ℕ, zero, suc, ◌*◌, ◌<◌, ◌≤◌, ◌-◌, Bool, true, false, cond, eqb, refl, sym, ap, subst, ◌∙◌, arith, List, [], ◌∷◌, length, Option, None, Result, Ok, Err}
+use Rattle.std.specs.Prelude.{All, slice_get}
 use Rattle.rand_core.specs.Stream.{Stream}
-use Rattle.co_link.specs.Exchanges.{LinkCall, exchange_of}
+use Rattle.co_link.specs.Exchanges.{exchange_of}
 use Rattle.co_link.specs.declared.messages.Target.{Target}
 use Rattle.co_link.specs.declared.messages.Target.TheVariants as targets_of
 use Rattle.co_link.specs.declared.messages.Reply.{Reply}
@@ -32,14 +32,14 @@ use Rattle.co_client.specs.declared.fault.SearchFault.{SearchFault}
 use Rattle.co_client.specs.declared.fault.SearchFault.TheVariants.{NoPlacement, OutOfMemory}
 use Rattle.co_client.specs.declared.placing.Placing.{Placing}
 use Rattle.co_client.specs.declared.placing.Placing.TheVariants.{Placed, Unplaced}
-use Rattle.co_client.specs.Causes.{Search, IsRead, ReadsHits, ReadsRecords, ReadsPicked, HasBadRecord, HasBadText, secret_of}
+use Rattle.co_client.specs.Causes.{Search, ReadsHits, ReadsRecords, ReadsPicked, HasBadRecord, HasBadText, secret_of}
 use Rattle.co_client.specs.Faults.{is_want}
-use Rattle.co_client.specs.Telling.{Makes, Tells, Told}
+use Rattle.co_client.specs.Telling.{Makes, Told}
 use Rattle.co_client.specs.Placings.{IsPlacing, by_bucket, shown_of, concluded}
 use Rattle.co_client.specs.Records.{records_read, picked_record, picked_read, bin_asked, hits_shown}
 use Rattle.co_client.specs.Rounds.{Comes, Ranks, RoundFails, LinkFails, keys_request, queries_request}
 use Rattle.co_client.proofs.Exchanged.{in_front}
-use Rattle.co_client.proofs.Unique.{asked_for, hits-one, records-one}
+use Rattle.co_client.proofs.Unique.{hits-one, records-one}
 use Rattle.co_client.proofs.Trails.{makes-one, score_request, record_request, bin_request, IsTrail, trail-whole, after_scores, after_all}
 use Rattle.co_client.proofs.RecordFaults.{record-refusal, text-refusal}
 use Rattle.co_client.proofs.Told.{AreRowsOf, early-rows, tells-here, tells-all, round-told}

@@ -1,5 +1,5 @@
 -- The round of scores, from its exchange.
-use Rattle.std.proofs.Common.{◌≡◌, ℕ, ◌*◌, ◌≤◌, inr, ap, subst, ◌∙◌, arith, ℤ, List, length, Option}
+use Rattle.std.proofs.Common.{◌≡◌, ℕ, ◌≤◌, inr, ap, subst, ◌∙◌, arith, ℤ, List, length, Option}
 use Rattle.std.proofs.lemmas.List.{length-take}
 use Rattle.std.proofs.lemmas.List.FromFn.{length-map-range_with_len}
 use Rattle.co_link.specs.declared.messages.Request.{Request}

@@ -1,18 +1,18 @@
 -- How long the bodies are that a search draws.
-use Rattle.std.proofs.Common.{◌≡◌, ℕ, zero, suc, ◌+◌, ◌*◌, ◌/◌, ◌<◌, ◌≤◌, refl, sym, ap, subst, ◌∙◌, arith, ℤ, List, [], ◌∷◌, ◌++◌, length, get_or, map, length-append}
+use Rattle.std.proofs.Common.{◌≡◌, ℕ, zero, suc, ◌+◌, ◌*◌, ◌/◌, refl, sym, ap, ◌∙◌, arith, ℤ, List, [], ◌∷◌, ◌++◌, length, length-append}
 use Rattle.std.specs.Prelude.{All}
 use Rattle.std.specs.List.{flat_map}
 use Rattle.std.proofs.lemmas.List.Concat.{flat_map-cons}
 use Rattle.std.proofs.lemmas.List.Elements.{All-head, All-tail, All-push}
 use Rattle.rand_core.specs.Stream.{Stream}
-use Rattle.co_math.specs.Parameters.{q, digit_count}
+use Rattle.co_math.specs.Parameters.{q}
 use Rattle.co_math.specs.Logarithms.{log2_up}
 use Rattle.co_math.proofs.Residue_lists.{length-residues_of}
 use Rattle.co_noise.specs.Shapes.{Numbers, levels}
 use Rattle.co_bfv.specs.Draws.{ternary_draw, secret_draw, uniform_draw, error_draw, encryption_draw}
 use Rattle.co_bfv.specs.Encryptions.{encrypted}
 use Rattle.co_bfv.proofs.Drawn.{length-drawn}
-use Rattle.co_switch.specs.Keys.{Key, Keys, rotation_element, expansion_element}
+use Rattle.co_switch.specs.Keys.{Key, rotation_element, expansion_element}
 use Rattle.co_switch.specs.Draws.{hidden, pairs_draw, key_draw, keys_draw, key_set_draw}
 use Rattle.co_switch.proofs.Drawing.{length-uniform}
 use Rattle.co_wire.specs.Bodies.{polynomial_bytes, cipher_bytes, ciphers_bytes, pairs_bytes, key_bytes, keys_bytes}

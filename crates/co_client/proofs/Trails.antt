@@ -1,8 +1,7 @@
 -- The exchanges of a search, one behind another.
-use Rattle.std.proofs.Common.{◌≡◌, ℕ, zero, suc, ◌+◌, ◌-◌, ◌*◌, ◌/◌, ◌<◌, ◌≤◌, refl, sym, ap, subst, ◌∙◌, arith, ℤ, List, [], ◌∷◌, ◌++◌, length, get_or, map, take, drop, append_assoc, Option, Some, None, Result, Ok, Err}
+use Rattle.std.proofs.Common.{◌≡◌, ℕ, ◌*◌, refl, sym, ap, subst, ◌∙◌, arith, ℤ, List, [], ◌∷◌, ◌++◌, length, map, take, drop, append_assoc, Option, Some, None, Ok}
 use Rattle.std.proofs.lemmas.Option.{same_Some}
 use Rattle.std.proofs.lemmas.List.{append-nil, take_at, drop_at, take-map, length-map}
-use Rattle.std.proofs.lemmas.List.FromFn.{length-map-range_with_len}
 use Rattle.rand_core.specs.Stream.{Stream}
 use Rattle.co_link.specs.Exchanges.{exchange_of}
 use Rattle.co_link.specs.declared.messages.Target.{Target}
@@ -14,11 +13,10 @@ use Rattle.co_noise.specs.Shapes.{Numbers, keyword_blocks}
 use Rattle.co_bucket.specs.Lists.{bucket_count}
 use Rattle.co_bfv.specs.Draws.{ternary_draw, secret_draw}
 use Rattle.co_bfv.proofs.Drawn.{length-drawn}
-use Rattle.co_wire.specs.Bodies.{keys_bytes, ciphers_bytes}
 use Rattle.co_wire.specs.Lengths.{request_size}
 use Rattle.co_wire.specs.Public.{public_of}
-use Rattle.co_rounds.specs.Asked.{Asked, asked_draw, bodies_of, encryptions_draw, row_message, AreKeywordMessages}
-use Rattle.co_rounds.specs.Plans.{Seen, trace, targets, plan, plan_of, planned, FollowsPlan, IsWholePlan, made, Extends}
+use Rattle.co_rounds.specs.Asked.{asked_draw, bodies_of, row_message}
+use Rattle.co_rounds.specs.Plans.{Seen, trace, plan, plan_of, FollowsPlan, IsWholePlan, made, Extends}
 use Rattle.co_client.specs.Telling.{Makes}
 use Rattle.co_client.specs.Published.{public_request}
 use Rattle.co_client.specs.Rounds.{Comes, ComesNone, keys_asked, keys_request, queries_request, queries_rest, record_messages, bin_messages}

@@ -15,7 +15,7 @@ ghost use Rattle.co_client.specs.Causes.{Search, Publishes, IsRead, IsCause, IsC
 ghost use Rattle.co_client.specs.Going.{GoesOn};
 ghost use Rattle.co_client.specs.Plain.{AnswersPlainly};
 ghost use Rattle.co_client.specs.Telling.{Told};
-ghost use Rattle.co_client.specs.Faults.{IsManyTerms};
+ghost use Rattle.co_client.specs.Faults.{IsManyTerms, IsForFew};
 ghost use Rattle.co_client.specs.Placings.{concluded};
 ghost use Rattle.co_client.specs.Records.{hit_shown, hits_shown};
 
@@ -185,6 +185,8 @@ pub fn search<K: Link, R: Rng>(
     ensures refused { (es : List Exchange) → made (K.exchanges link.old) (K.exchanges link.new) ≡ Some es
         → IfErr result (IsCause (record { query = terms query.now; pick = pick; stream = R.stream rng.old; before = K.faults link.old; now = K.faults link.new; last_failed = K.last_failed link.new }) es) }
     ensures untold { IfErr result (IsCauseUntold (record { query = terms query.now; pick = pick; stream = R.stream rng.old; before = K.faults link.old; now = K.faults link.new; last_failed = K.last_failed link.new })) }
+    // Any other answer than too many keywords, or want of memory, comes only for few.
+    ensures few { IsForFew (length (distinct (terms query.now))) result }
     // The requests are the drawn ones.
     ensures asked { (es : List Exchange) → made (K.exchanges link.old) (K.exchanges link.new) ≡ Some es
         → (s : Numbers) (ts : List (List ℕ)) → Publishes es s ts → test_of s ≡ Ok s

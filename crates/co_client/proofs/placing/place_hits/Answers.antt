@@ -1,4 +1,4 @@
-use Rattle.std.proofs.Common.{◌≡◌, ℕ, ◌<◌, ◌∙◌, sym, subst, List, length}
+use Rattle.std.proofs.Common.{ℕ, ◌<◌, ◌∙◌, sym, subst, List, length}
 use Rattle.std.specs.Prelude.{All}
 use Rattle.co_client.proofs.Unplaced.{ranks-within}
 use Rattle.co_client.proofs.placing.place_hits.Goals as goal

@@ -1,8 +1,7 @@
-use Rattle.std.proofs.Common.{◌≡◌, ℕ, inr, ◌∙◌, sym, ap, subst, List, [], Result, Ok}
+use Rattle.std.proofs.Common.{◌≡◌, ℕ, inr, ◌∙◌, sym, ap, subst, List, Ok}
 use Rattle.co_link.specs.declared.messages.Target.TheVariants.{Public}
 use Rattle.co_math.specs.Coefficients.{AreBelow}
 use Rattle.co_noise.specs.Shapes.{Numbers}
-use Rattle.co_noise.specs.Bounds.{test_of}
 use Rattle.co_noise.proofs.Room.{test_of-same}
 use Rattle.co_wire.specs.Public.{ArePublic, public_of}
 use Rattle.co_rounds.specs.Answers.{reply_with}

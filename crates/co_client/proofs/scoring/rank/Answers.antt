@@ -1,4 +1,4 @@
-use Rattle.std.proofs.Common.{◌≡◌, ℕ, ◌+◌, ◌*◌, ◌≤◌, ◌∙◌, sym, ap, subst, refl, inr, arith, List, length}
+use Rattle.std.proofs.Common.{◌≡◌, ℕ, ◌*◌, ◌∙◌, sym, ap, subst, arith, List, length}
 use Rattle.co_link.specs.declared.messages.Request.{Request}
 use Rattle.co_link.specs.declared.messages.Target.TheVariants.{Score}
 use Rattle.co_noise.specs.Shapes.{Numbers, HasRanges, document_blocks}
@@ -8,8 +8,8 @@ use Rattle.co_wire.specs.Bodies.{SpellsCiphers}
 use Rattle.co_wire.specs.Lengths.{reply_size}
 use Rattle.co_rounds.specs.Answers.{reply_with}
 use Rattle.co_rounds.specs.Scoring.{scores_read}
-use Rattle.co_client.specs.Openings.{AreSpelled, IsRefusedBody}
-use Rattle.co_client.specs.Rounds.{Comes, RoundFails, Ranks, queries_request}
+use Rattle.co_client.specs.Openings.{IsRefusedBody}
+use Rattle.co_client.specs.Rounds.{Comes, RoundFails, queries_request}
 use Rattle.co_client.proofs.Unanswered.{ask-round, body-round}
 use Rattle.co_client.proofs.Score_round.{memory-round, spelled-same, ranking-few, scores-whole, scores-long, scores-rank}
 use Rattle.co_client.proofs.scoring.rank.Goals as goal

@@ -1,4 +1,4 @@
-use Rattle.std.proofs.Common.{◌≡◌, ℕ, ◌+◌, ◌<◌, ◌≤◌, refl, sym, ap, subst, ◌∙◌, arith, true, List, length, Result}
+use Rattle.std.proofs.Common.{◌≡◌, ℕ, ◌<◌, refl, sym, ap, subst, ◌∙◌, arith, true, List, length, Result}
 use Rattle.std.specs.Prelude.{All}
 use Rattle.co_text.specs.Terms.{terms}
 use Rattle.co_text.specs.declared.found.Found.{Found}

@@ -23,6 +23,9 @@ returns-clause-refused g c = λ es e. (told-at _ _ _ _ _ c.conduct.ensures.told 
 pub returns-clause-untold : goal.returns-clause-untold
 returns-clause-untold g c = untold-of _ _ _ _ _ c.conduct.ensures.told
 
+pub returns-clause-few : goal.returns-clause-few
+returns-clause-few g c = c.conduct.ensures.told.tells.few
+
 pub returns-clause-asked : goal.returns-clause-asked
 returns-clause-asked g c = λ es e. (told-at _ _ _ _ _ c.conduct.ensures.told es e).asked
 
