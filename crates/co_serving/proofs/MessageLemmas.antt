@@ -1,6 +1,6 @@
 -- One message: from its head, and what follows it, to its answer.
-use Rattle.std.proofs.Common.{◌≡◌, ℕ, List, [], ◌++◌, length, true, Option, Some, None, Result, Ok, Err, refl, sym, ap, ◌∙◌, subst, inl, inr}
-use Rattle.std.specs.Prelude.{IfSome, option_map}
+use Rattle.std.proofs.Common.{◌≡◌, ℕ, List, [], ◌++◌, true, Option, Some, None, Result, Ok, Err, refl, sym, ap, ◌∙◌, subst, inr}
+use Rattle.std.specs.Prelude.{IfSome}
 use Rattle.co_link.specs.declared.messages.Target.{Target}
 use Rattle.co_link.specs.declared.messages.Request.{Request}
 use Rattle.co_link.specs.declared.messages.Reply.{Reply}
@@ -16,7 +16,7 @@ use Rattle.co_serving.specs.declared.response.Response.TheVariants.{Replied}
 use Rattle.co_serving.specs.declared.ended.Ended.{Ended}
 use Rattle.co_serving.specs.declared.ended.Ended.TheVariants.{Closed, Refused, Cut, Spent, ReadFault, WriteFault, OutOfMemory}
 use Rattle.co_serving.specs.Conversation.{closes, refusal, Turn, bad, long, refused, no_memory, replied}
-use Rattle.co_serving.specs.Reading.{EndsReading, EndsBody, ReadsRequest, Refuses, bad_head, long_head, refused_head, no_room, Asks, ReadsNext, ReadsMessage}
+use Rattle.co_serving.specs.Reading.{EndsReading, EndsBody, ReadsRequest, Refuses, bad_head, long_head, refused_head, no_room, ReadsNext, ReadsMessage}
 
 -- no head and no bytes
 pub ends_closed : (first : Option HttpFault) (old new : Option (List ℕ)) → first ≡ None → ReadsHead first old new (Ok None) → IfSome old (λ input. input ≡ [])
@@ -36,7 +36,7 @@ next_refused wanted None (Some input) (Some after) left now head answer none rea
 ends_body : (wanted : Target → ℕ) (input after : List ℕ) (left : Option (List ℕ)) (head : Head) (target : Target) (ended : Ended)
     → IsHead input (Some head) after → refusal wanted head ≡ None → head.target ≡ Some target → EndsBody (wanted target) after left ended → EndsReading wanted input left ended
 ends_body wanted input after left head target Cut is taken known ends = (head_not_empty input head after is, inr (head, target, after, is, taken, known, ends))
-ends_body wanted input after None head target ReadFault is taken known ends = tt
+ends_body wanted input after None head target ReadFault is taken known ends = absurd ends
 ends_body wanted input after (Some more) head target ReadFault is taken known (body, parts, few) =
     let cut = head_cut input after body more head is parts in
     (cut.0, cut.1, inr (head, target, body, cut.2, taken, known, few))

@@ -82,7 +82,7 @@ ended_reading wanted steps s u input rest left put now answers requests Closed o
     (answers, record { turns = subst P ends turns; stay = stay; few = few }, responds)
 ended_reading wanted steps s u input rest left put now answers requests Cut of turns stay few responds ends =
     (answers, rest, record { turns = turns; stay = stay; few = few }, ends.0, ends.1, responds)
-ended_reading wanted steps s u input rest None put now answers requests ReadFault of turns stay few responds ends = (answers, responds, tt)
+ended_reading wanted steps s u input rest None put now answers requests ReadFault of turns stay few responds ends = absurd ends
 ended_reading {S} wanted steps s u input rest (Some more) put now answers requests ReadFault of turns stay few responds (cut, parts, none) =
     let front = turns_front wanted steps s u input answers rest turns stay in
     let whole : input ≡ (front.0 ++ cut) ++ more = front.1 ∙ ap (λ r. front.0 ++ r) parts ∙ sym (append_assoc front.0 cut more) in

@@ -5,7 +5,7 @@ use Rattle.co_link.specs.declared.messages.Request.{Request}
 use Rattle.co_link.specs.declared.messages.Reply.{Reply}
 use Rattle.co_serving.specs.declared.response.Response.{Response}
 use Rattle.co_serving.specs.declared.ended.Ended.{Ended}
-use Rattle.co_serving.specs.declared.ended.Ended.TheVariants.{Closed, Refused, Cut, Spent, ReadFault, WriteFault, OutOfMemory}
+use Rattle.co_serving.specs.declared.ended.Ended.TheVariants.{Closed, Cut, ReadFault, WriteFault}
 use Rattle.co_http.specs.Bodies.{IsCutBody}
 use Rattle.co_http.specs.Heads.{IsHead, IsHeadFault}
 use Rattle.co_http.specs.Responses.{is_status}
@@ -29,7 +29,7 @@ OfReading ended = ⊥
 abbrev pub EndsReading : (Target → ℕ) → List ℕ → Option (List ℕ) → Ended → Type 0
 EndsReading wanted input left Closed = input ≡ []
 EndsReading wanted input left Cut = (input ≢ []) × HasNoMessage wanted input
-EndsReading wanted input left ReadFault = IfSome left (λ more. (taken : List ℕ) × (input ≡ taken ++ more) × HasNoMessage wanted taken)
+EndsReading wanted input left ReadFault = IsSomeAnd left (λ more. (taken : List ℕ) × (input ≡ taken ++ more) × HasNoMessage wanted taken)
 EndsReading wanted input left ended = ⊥
 
 -- the first message of the input is answered without a service, and that closes
@@ -72,7 +72,7 @@ ReadsMessage wanted steps s t old new left (Err ended) = OfReading ended × (t �
 -- why no body of a request for the target is read from the input: it ends inside it, or taking failed inside it
 abbrev pub EndsBody : ℕ → List ℕ → Option (List ℕ) → Ended → Type 0
 EndsBody count input left Cut = length input < count
-EndsBody count input left ReadFault = IfSome left (λ more. IsCutBody count input more)
+EndsBody count input left ReadFault = IsSomeAnd left (λ more. IsCutBody count input more)
 EndsBody count input left ended = ⊥
 
 -- what follows a head for a known target that isn't refused: a body, and rest; or no memory for it, or the reading ends
