@@ -1,15 +1,11 @@
 -- The numbers of diagonals and of entries.
-use Rattle.std.proofs.Common.{◌≡◌, ℕ, zero, suc, Bool, true, false, ◌+◌, ◌*◌, ◌-◌, ◌/◌, ◌%◌, ◌<◌, ◌≤◌, ◌&&◌, ◌≢◌, refl, sym, ap, subst, ◌∙◌, ⊎_elim, arith, List, [], ◌∷◌, ◌++◌, length, get_or, set, drop, replicate, cond, max, All, eqb, eq-eqb, add-one, length-append}
+use Rattle.std.proofs.Common.{◌≡◌, ℕ, true, ◌+◌, ◌*◌, ◌-◌, ◌/◌, ◌%◌, ◌<◌, ◌≤◌, ◌&&◌, sym, ap, subst, ◌∙◌, ⊎_elim, arith, List, get_or, max, All, eqb}
 use Rattle.std.proofs.Math.Nat.{mod-lt, div-mul-le_self, mul-le-mul_left, mul-le-mul_right}
-use Rattle.std.proofs.Math.Seq.{drop-cons, get_or-append_seam}
-use mathlib.Core.Bool.{true≢false}
 use Rattle.std.proofs.lemmas.Nat.{mod-mul-add}
 use Rattle.std.specs.Int.{div_ceil}
 use Rattle.std.proofs.lemmas.Grind.{div_ceil_times}
 use Rattle.co_noise.specs.Shapes.{keyword_blocks as keyword_blocks_of, document_blocks as document_blocks_of}
-use Rattle.std.proofs.lemmas.Bool.{cases_eq, cases_lt, eqb-true}
-use Rattle.std.proofs.lemmas.Bool.Decides.{nat_tests}
-use Rattle.std.proofs.lemmas.List.{length-set, get_or-set_other, get_or-set_same, get_or-replicate, length-replicate, get_or_append_left, get_or_default}
+use Rattle.std.proofs.lemmas.Bool.{cases_lt, eqb-true}
 use Rattle.co_matvec.specs.Weights.{WeightMatrix, keyword_blocks, document_blocks}
 use Rattle.co_matvec.specs.Diagonals.{on_diagonal}
 use Rattle.co_matvec.specs.Ranges.{diagonal_number, entry_number}
