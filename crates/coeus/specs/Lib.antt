@@ -7,4 +7,7 @@ pub mod Searches
 pub mod Imports
 pub mod ShapeLines
 pub mod Locals
+pub mod Connections
+pub mod Serving
+pub mod Remote
 pub mod Runs

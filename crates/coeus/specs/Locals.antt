@@ -128,7 +128,7 @@ pub record LocalAnswer (p : LocalWords) (held : Option Folder) (was is : Stream)
 -- when `local` refuses, but by the output
 abbrev pub LocalCause : LocalWords → Outside → Outside → Refusal → Type 0
 LocalCause p was is (refusals.Search fault) =
-    Searched p was.files.held was.random is.random (Err fault)
+    Searched p was.files.held was.devices.random is.devices.random (Err fault)
 LocalCause p was is refusal = OpenCause p.library was.files is.files refusal
 
 -- the status of a search that can be answered: the file is told and was written by `import`, its
