@@ -10,11 +10,11 @@ use Rattle.co_serving.specs.declared.response.Response.{Response}
 use Rattle.co_serving.specs.declared.ended.Ended.{Ended}
 use Rattle.co_serving.specs.declared.ended.Ended.TheVariants.{Closed, Refused, Cut, Spent, ReadFault, WriteFault, OutOfMemory}
 use Rattle.co_serving.specs.Conversation.{closes, status_of, response_at, responses, AreOpen, Turns, Responds, Serves, closing_end, most_responses}
-use Rattle.co_serving.specs.Reading.{Answered, Broken, ServesMessage, OfReading, EndsReading, SoFar}
+use Rattle.co_serving.specs.Reading.{Answered, Broken, ServesMessage, OfReading, EndsReading, SoFar, TurnsTo}
 use Rattle.co_serving.proofs.TurnLemmas.{stays_open, closes_with, responses_more, stay_more, turns_more, turns_front, turns_shorter}
 
 -- a fact of both told values, made of another
-pub if_both : (o p : Option (List ℕ)) (P Q : List ℕ → List ℕ → Type 0) → ((x y : List ℕ) → P x y → Q x y) → IfSome o (λ x. IfSome p (λ y. P x y)) → IfSome o (λ x. IfSome p (λ y. Q x y))
+if_both : (o p : Option (List ℕ)) (P Q : List ℕ → List ℕ → Type 0) → ((x y : List ℕ) → P x y → Q x y) → IfSome o (λ x. IfSome p (λ y. P x y)) → IfSome o (λ x. IfSome p (λ y. Q x y))
 if_both None p P Q make holds = tt
 if_both (Some x) None P Q make holds = tt
 if_both (Some x) (Some y) P Q make holds = make x y holds
@@ -35,7 +35,7 @@ responds_more answers a put now requests number output = let same : requests ≡
 }
 
 -- the message was answered, and the connection stays open
-pub so_far_more : {S : Type 0} (wanted : S → Target → ℕ) (steps : S → Request → Reply → S → Type 0) (s t u : S) (unread now unread_new left_new now_new : Option (List ℕ)) (requests : ℕ) (input put : List ℕ)
+so_far_more : {S : Type 0} (wanted : S → Target → ℕ) (steps : S → Request → Reply → S → Type 0) (s t u : S) (unread now unread_new left_new now_new : Option (List ℕ)) (requests : ℕ) (input put : List ℕ)
     → ServesMessage wanted steps t u unread unread_new left_new now now_new requests (Ok None)
     → SoFar wanted steps s t input unread put now requests
     → SoFar wanted steps s u input unread_new put now_new (requests + 1)
@@ -63,7 +63,7 @@ closed_as wanted steps s u input rest left put now answers a requests status few
     (answers, a, rest, turns, closing, is, omega (arith, more), responds)
 
 -- the message was answered, and the response closed the connection
-pub so_far_closed : {S : Type 0} (wanted : S → Target → ℕ) (steps : S → Request → Reply → S → Type 0) (s t u : S) (unread now unread_new left_new now_new : Option (List ℕ)) (requests status : ℕ) (input put : List ℕ)
+so_far_closed : {S : Type 0} (wanted : S → Target → ℕ) (steps : S → Request → Reply → S → Type 0) (s t u : S) (unread now unread_new left_new now_new : Option (List ℕ)) (requests status : ℕ) (input put : List ℕ)
     → requests < most_responses → ServesMessage wanted steps t u unread unread_new left_new now now_new requests (Ok (Some status))
     → SoFar wanted steps s t input unread put now requests
     → Serves wanted steps s u input left_new put now_new (requests + 1) (closing_end (requests + 1) status)
@@ -82,7 +82,7 @@ ended_reading wanted steps s u input rest left put now answers requests Closed o
     (answers, record { turns = subst P ends turns; stay = stay; few = few }, responds)
 ended_reading wanted steps s u input rest left put now answers requests Cut of turns stay few responds ends =
     (answers, rest, record { turns = turns; stay = stay; few = few }, ends.0, ends.1, responds)
-ended_reading wanted steps s u input rest None put now answers requests ReadFault of turns stay few responds ends = (answers, responds, tt)
+ended_reading wanted steps s u input rest None put now answers requests ReadFault of turns stay few responds ends = absurd ends
 ended_reading {S} wanted steps s u input rest (Some more) put now answers requests ReadFault of turns stay few responds (cut, parts, none) =
     let front = turns_front wanted steps s u input answers rest turns stay in
     let whole : input ≡ (front.0 ++ cut) ++ more = front.1 ∙ ap (λ r. front.0 ++ r) parts ∙ sym (append_assoc front.0 cut more) in
@@ -96,7 +96,7 @@ ended_reading wanted steps s u input rest left put now answers requests WriteFau
 ended_reading wanted steps s u input rest left put now answers requests OutOfMemory of turns stay few responds ends = absurd of
 
 -- no message was answered, or putting failed
-pub so_far_ended : {S : Type 0} (wanted : S → Target → ℕ) (steps : S → Request → Reply → S → Type 0) (s t u : S) (unread now unread_new left_new now_after : Option (List ℕ)) (requests : ℕ) (ended : Ended) (input put : List ℕ)
+so_far_ended : {S : Type 0} (wanted : S → Target → ℕ) (steps : S → Request → Reply → S → Type 0) (s t u : S) (unread now unread_new left_new now_after : Option (List ℕ)) (requests : ℕ) (ended : Ended) (input put : List ℕ)
     → requests < most_responses → ServesMessage wanted steps t u unread unread_new left_new now now_after requests (Err ended)
     → SoFar wanted steps s t input unread put now requests
     → Serves wanted steps s u input left_new put now_after requests ended
@@ -124,8 +124,24 @@ so_far_ended {S} wanted steps s t u unread now unread_new left_new now_after req
     ended_reading wanted steps s u input far.rest left_new put now_after far.answers requests ended of (subst P (sym same) far.turns) far.stay
     (omega (arith, far.responds.number)) (record { output = output ∙ far.responds.output; number = far.responds.number }) (subst Q (sym same) ends)
 
--- what a call met, where its result is known
-pub serves_at : {S : Type 0} (wanted : S → Target → ℕ) (steps : S → Request → Reply → S → Type 0) (s t : S) (old new left put now : Option (List ℕ)) (count : ℕ) (result known : Result (Option ℕ) Ended)
-    → result ≡ known → ServesMessage wanted steps s t old new left put now count result → ServesMessage wanted steps s t old new left put now count known
-serves_at wanted steps s t old new left put now count result known is serves =
-    let P : Result (Option ℕ) Ended → Type 0 = ServesMessage wanted steps s t old new left put now count in subst P is serves
+-- one message more, whatever came of it
+turns_to : {S : Type 0} (wanted : S → Target → ℕ) (steps : S → Request → Reply → S → Type 0) (s t u : S) (unread now unread_new left_new now_new : Option (List ℕ)) (requests : ℕ) (result : Result (Option ℕ) Ended) (input put : List ℕ)
+    → requests < most_responses → ServesMessage wanted steps t u unread unread_new left_new now now_new requests result
+    → SoFar wanted steps s t input unread put now requests
+    → TurnsTo wanted steps s u input unread_new left_new put now_new requests result
+turns_to wanted steps s t u unread now unread_new left_new now_new requests (Ok None) input put few serves far =
+    so_far_more wanted steps s t u unread now unread_new left_new now_new requests input put serves far
+turns_to wanted steps s t u unread now unread_new left_new now_new requests (Ok (Some status)) input put few serves far =
+    so_far_closed wanted steps s t u unread now unread_new left_new now_new requests status input put few serves far
+turns_to wanted steps s t u unread now unread_new left_new now_new requests (Err ended) input put few serves far =
+    so_far_ended wanted steps s t u unread now unread_new left_new now_new requests ended input put few serves far
+
+-- the same of a connection that began with these bytes to be read and these put, where they are told, and a known result
+pub told_turns : {S : Type 0} (wanted : S → Target → ℕ) (steps : S → Request → Reply → S → Type 0) (s t u : S) (left put unread now unread_new left_new now_new : Option (List ℕ)) (requests : ℕ) (result known : Result (Option ℕ) Ended)
+    → result ≡ known → requests < most_responses → ServesMessage wanted steps t u unread unread_new left_new now now_new requests result
+    → IfSome left (λ input. IfSome put (λ put. SoFar wanted steps s t input unread put now requests))
+    → IfSome left (λ input. IfSome put (λ put. TurnsTo wanted steps s u input unread_new left_new put now_new requests known))
+told_turns {S} wanted steps s t u left put unread now unread_new left_new now_new requests result known is few serves told =
+    let P : Result (Option ℕ) Ended → Type 0 = ServesMessage wanted steps t u unread unread_new left_new now now_new requests in
+    if_both left put (λ input put. SoFar wanted steps s t input unread put now requests) (λ input put. TurnsTo wanted steps s u input unread_new left_new put now_new requests known)
+    (λ input put far. turns_to wanted steps s t u unread now unread_new left_new now_new requests known input put few (subst P is serves) far) told

@@ -1,6 +1,6 @@
 -- The conversation over one connection: what each message of the input is answered by, and how it ends. It says nothing of
 -- the pieces in which the input comes.
-use Rattle.std.specs.Prelude.{◌≡◌, ◌≢◌, ℕ, ◌+◌, ◌≤◌, ◌<◌, ◌⊎◌, Bool, true, false, ◌||◌, ◌==◌, if◌then◌else◌, List, [], ◌∷◌, ◌++◌, length, take, codes, decimal, Option, Some, None, IfSome}
+use Rattle.std.specs.Prelude.{◌≡◌, ◌≢◌, ℕ, ◌+◌, ◌≤◌, ◌<◌, ◌⊎◌, Bool, true, false, ◌||◌, ◌==◌, if◌then◌else◌, List, [], ◌∷◌, ◌++◌, length, take, codes, decimal, Option, Some, None, IsSomeAnd}
 use Rattle.std.specs.List.{AllByRecursion}
 use Rattle.co_link.specs.declared.messages.Target.{Target}
 use Rattle.co_link.specs.declared.messages.Request.{Request}
@@ -156,10 +156,10 @@ Serves wanted steps s t input left put now requests (ended.Refused status) =
 -- the last response was written
 Serves wanted steps s t input left put now requests ended.Spent =
     (answers : List Response) × (rest : List ℕ) × Turns wanted steps s input answers t rest × (length answers ≡ most_responses) × Responds answers put now requests
--- taking failed: the output is the responses to the whole messages of what was taken
+-- taking failed: the output is the responses to the whole messages of what was taken, which is the input up to what the source has left
 Serves wanted steps s t input left put now requests ended.ReadFault =
     (answers : List Response) × Responds answers put now requests
-    × IfSome left (λ more. (taken : List ℕ) × (rest : List ℕ) × (input ≡ taken ++ more) × Stays wanted steps s t taken answers rest × HasNoMessage (wanted t) rest)
+    × IsSomeAnd left (λ more. (taken : List ℕ) × (rest : List ℕ) × (input ≡ taken ++ more) × Stays wanted steps s t taken answers rest × HasNoMessage (wanted t) rest)
 -- putting failed: the output ends inside the last of the responses
 Serves wanted steps s t input left put now requests ended.WriteFault =
     (front : List Response) × (a : Response) × (rest : List ℕ) × (n : ℕ) × Turns wanted steps s input (front ++ a ∷ []) t rest × (length front < most_responses)

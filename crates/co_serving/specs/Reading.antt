@@ -1,36 +1,67 @@
 -- How the reading of one message ends, and what was said so far on a connection.
-use Rattle.std.specs.Prelude.{◌≡◌, ◌≢◌, ℕ, ◌<◌, ◌≤◌, ◌⊎◌, List, [], ◌++◌, length, take, Option, Some, IfSome, IsSomeAnd, false, Result, Ok, Err, ⊤}
+use Rattle.std.specs.Prelude.{◌≡◌, ◌≢◌, ℕ, ◌+◌, ◌<◌, ◌≤◌, ◌⊎◌, List, [], ◌++◌, length, take, Option, Some, None, IfSome, IsSomeAnd, IsTrue, option_map, true, false, Result, Ok, Err, ⊤}
 use Rattle.co_link.specs.declared.messages.Target.{Target}
 use Rattle.co_link.specs.declared.messages.Request.{Request}
 use Rattle.co_link.specs.declared.messages.Reply.{Reply}
 use Rattle.co_serving.specs.declared.response.Response.{Response}
 use Rattle.co_serving.specs.declared.ended.Ended.{Ended}
-use Rattle.co_serving.specs.declared.ended.Ended.TheVariants.{Closed, Refused, Cut, Spent, ReadFault, WriteFault, OutOfMemory}
+use Rattle.co_serving.specs.declared.ended.Ended.TheVariants.{Closed, Cut, ReadFault, WriteFault}
 use Rattle.co_http.specs.Bodies.{IsCutBody}
+use Rattle.co_http.specs.Heads.{IsHead, IsHeadFault}
+use Rattle.co_http.specs.Responses.{is_status}
+use Rattle.co_http.specs.declared.fault.HttpFault.{HttpFault}
+use Rattle.co_http.specs.declared.fault.HttpFault.TheVariants.{BadHead, HeadTooLong}
+use Rattle.co_http.specs.declared.request_head.Head.{Head}
+use Rattle.co_serving.specs.declared.message.Message.{Message}
+use Rattle.co_serving.specs.declared.message.Message.TheVariants as messages
 use Rattle.co_serving.specs.declared.response.Response.TheVariants as answers
-use Rattle.co_serving.specs.declared.response.Response.TheVariants.{Replied}
-use Rattle.co_serving.specs.Conversation.{closes, closing_status, response_at, Turn, Turns, HasNoMessage, AreOpen, Responds}
+use Rattle.co_serving.specs.Conversation.{closes, closing_status, closing_end, status_of, response_at, refusal, Turn, Turns, HasNoMessage, AreOpen, Responds, Serves}
 
 -- the ends that reading may have
 abbrev pub OfReading : Ended → Type 0
 OfReading Closed = ⊤
 OfReading Cut = ⊤
 OfReading ReadFault = ⊤
-OfReading (Refused status) = ⊥
-OfReading Spent = ⊥
-OfReading WriteFault = ⊥
-OfReading OutOfMemory = ⊥
+OfReading ended = ⊥
 
 -- why no message is read from the input, of which the source has more left: there is none, or it ends inside one, or taking
 -- failed before it was whole
 abbrev pub EndsReading : (Target → ℕ) → List ℕ → Option (List ℕ) → Ended → Type 0
 EndsReading wanted input left Closed = input ≡ []
 EndsReading wanted input left Cut = (input ≢ []) × HasNoMessage wanted input
-EndsReading wanted input left ReadFault = IfSome left (λ more. (taken : List ℕ) × (input ≡ taken ++ more) × HasNoMessage wanted taken)
-EndsReading wanted input left (Refused status) = ⊥
-EndsReading wanted input left Spent = ⊥
-EndsReading wanted input left WriteFault = ⊥
-EndsReading wanted input left OutOfMemory = ⊥
+EndsReading wanted input left ReadFault = IsSomeAnd left (λ more. (taken : List ℕ) × (input ≡ taken ++ more) × HasNoMessage wanted taken)
+EndsReading wanted input left ended = ⊥
+
+-- the first message of the input is answered without a service, and that closes
+pub data Refuses (wanted : Target → ℕ) (input : List ℕ) (answer : Response) : Type 0 where
+  bad_head : IsHeadFault input BadHead → answer ≡ answers.Refused 400 → Refuses wanted input answer
+  long_head : IsHeadFault input HeadTooLong → answer ≡ answers.Refused 431 → Refuses wanted input answer
+  refused_head : (head : Head) (after : List ℕ) → IsHead input (Some head) after → refusal wanted head ≡ Some answer → Refuses wanted input answer
+  no_room : (head : Head) (after : List ℕ) → IsHead input (Some head) after → refusal wanted head ≡ None → answer ≡ answers.Refused 503 → Refuses wanted input answer
+
+-- the first message of the input is this request, and rest follows
+pub record Asks (wanted : Target → ℕ) (input : List ℕ) (request : Request) (rest : List ℕ) : Type 0 where
+  pub head : Head
+  pub reads : IsHead input (Some head) (request.body ++ rest)
+  pub taken : refusal wanted head ≡ None
+  pub known : head.target ≡ Some request.target
+  pub whole : length request.body ≡ wanted request.target
+
+-- the first message of what is to be read is refused, or is a request, which leaves the rest of it; or the reading ends
+abbrev pub ReadsNext : (Target → ℕ) → Option (List ℕ) → Option (List ℕ) → Option (List ℕ) → Result Message Ended → Type 0
+ReadsNext wanted old new left (Ok (messages.Refused answer)) = (closes answer ≡ true) × IfSome old (λ input. Refuses wanted input answer)
+ReadsNext wanted old new left (Ok (messages.Asked request)) = (length request.body ≡ wanted request.target) × IfSome old (λ input. IsSomeAnd new (λ rest. Asks wanted input request rest))
+ReadsNext wanted old new left (Err ended) = OfReading ended × IfSome old (λ input. EndsReading wanted input left ended)
+
+-- the status of a response without a service is one that is answered
+abbrev pub MayAnswer : Message → Type 0
+MayAnswer (messages.Refused answer) = IsTrue (is_status (status_of answer))
+MayAnswer (messages.Asked request) = ⊤
+
+-- after a request no fault is kept
+abbrev pub KeepsNone : Option HttpFault → Message → Type 0
+KeepsNone kept (messages.Refused answer) = ⊤
+KeepsNone kept (messages.Asked request) = kept ≡ None
 
 -- the first message of what is to be read has this answer, and the rest of it is left where the answer doesn't close; or the
 -- reading ends, and the service is as before
@@ -38,30 +69,17 @@ abbrev pub ReadsMessage : {S : Type 0} → (S → Target → ℕ) → (S → Req
 ReadsMessage wanted steps s t old new left (Ok answer) = IfSome old (λ input. (rest : List ℕ) × (closes answer ≡ false → new ≡ Some rest) × Turn wanted steps s input answer t rest)
 ReadsMessage wanted steps s t old new left (Err ended) = OfReading ended × (t ≡ s) × IfSome old (λ input. EndsReading (wanted s) input left ended)
 
--- A request was answered by the service: its body was read from the input, which leaves rest.
-pub record Replies {S : Type 0} (wanted : S → Target → ℕ) (steps : S → Request → Reply → S → Type 0) (s t : S) (target : Target) (answer : Response) (input rest : List ℕ) : Type 0 where
-  pub body : List ℕ
-  pub reply : Reply
-  pub read : input ≡ body ++ rest
-  pub whole : length body ≡ wanted s target
-  pub step : steps s (record { target = target; body = body }) reply t
-  pub is : answer ≡ Replied reply
-
 -- why no body of a request for the target is read from the input: it ends inside it, or taking failed inside it
 abbrev pub EndsBody : ℕ → List ℕ → Option (List ℕ) → Ended → Type 0
 EndsBody count input left Cut = length input < count
-EndsBody count input left ReadFault = IfSome left (λ more. IsCutBody count input more)
-EndsBody count input left Closed = ⊥
-EndsBody count input left (Refused status) = ⊥
-EndsBody count input left Spent = ⊥
-EndsBody count input left WriteFault = ⊥
-EndsBody count input left OutOfMemory = ⊥
+EndsBody count input left ReadFault = IsSomeAnd left (λ more. IsCutBody count input more)
+EndsBody count input left ended = ⊥
 
--- what follows a head for a known target that isn't refused: the service's reply to its body; or no memory, or the reading ends
-abbrev pub AnswersBody : {S : Type 0} → (S → Target → ℕ) → (S → Request → Reply → S → Type 0) → S → S → Target → Option (List ℕ) → Option (List ℕ) → Option (List ℕ) → Result Response Ended → Type 0
-AnswersBody wanted steps s t target old new left (Ok answer) =
-    ((answer ≡ answers.Refused 503) × (t ≡ s)) ⊎ IfSome old (λ input. IsSomeAnd new (λ rest. Replies wanted steps s t target answer input rest))
-AnswersBody wanted steps s t target old new left (Err ended) = OfReading ended × (t ≡ s) × IfSome old (λ input. EndsBody (wanted s target) input left ended)
+-- what follows a head for a known target that isn't refused: a body, and rest; or no memory for it, or the reading ends
+abbrev pub ReadsRequest : ℕ → Target → Option (List ℕ) → Option (List ℕ) → Option (List ℕ) → Result Message Ended → Type 0
+ReadsRequest count target old new left (Ok (messages.Refused answer)) = answer ≡ answers.Refused 503
+ReadsRequest count target old new left (Ok (messages.Asked request)) = (request.target ≡ target) × (length request.body ≡ count) × (old ≡ option_map (λ rest. request.body ++ rest) new)
+ReadsRequest count target old new left (Err ended) = OfReading ended × IfSome old (λ input. EndsBody count input left ended)
 
 -- The first message of the input was answered, and the answer put as the response before which so many came.
 pub record Answered {S : Type 0} (wanted : S → Target → ℕ) (steps : S → Request → Reply → S → Type 0) (s t : S) (input : List ℕ) (new : Option (List ℕ)) (before : List ℕ) (now : Option (List ℕ)) (count : ℕ) (closing : Option ℕ) : Type 0 where
@@ -96,3 +114,9 @@ pub record SoFar {S : Type 0} (wanted : S → Target → ℕ) (steps : S → Req
   pub stay : AreOpen answers
   pub unread_is : unread ≡ Some rest
   pub responds : Responds answers put now requests
+
+-- what one message more makes of the conversation so far
+abbrev pub TurnsTo : {S : Type 0} → (S → Target → ℕ) → (S → Request → Reply → S → Type 0) → S → S → List ℕ → Option (List ℕ) → Option (List ℕ) → List ℕ → Option (List ℕ) → ℕ → Result (Option ℕ) Ended → Type 0
+TurnsTo wanted steps s t input unread left put now count (Ok None) = SoFar wanted steps s t input unread put now (count + 1)
+TurnsTo wanted steps s t input unread left put now count (Ok (Some status)) = Serves wanted steps s t input left put now (count + 1) (closing_end (count + 1) status)
+TurnsTo wanted steps s t input unread left put now count (Err ended) = Serves wanted steps s t input left put now count ended

@@ -5,10 +5,12 @@ ghost use Rattle.co_link.specs.Causes.{Rose};
 ghost use Rattle.co_http.specs.Conn.{held, unread, kept, cannot_write};
 ghost use Rattle.co_http.specs.Targets.{verb_for};
 ghost use Rattle.co_serving.specs.Conversation.{closes, status_of, is_same, wrong_length, length_refusal, method_refusal, refusal};
-ghost use Rattle.co_serving.specs.Reading.{AnswersBody, ReadsMessage};
+ghost use Rattle.co_serving.specs.Reading.{ReadsRequest, ReadsNext, ReadsMessage, MayAnswer, KeepsNone};
 ghost use Rattle.co_serving.specs.declared.ended.Ended.TheVariants.{ReadFault};
+ghost use Rattle.co_serving.specs.declared.message.Message.TheVariants as messages;
+ghost use Rattle.co_serving.specs.declared.response.Response.TheVariants as answers;
 
-use crate::{Ended, Response, Service};
+use crate::{Ended, Lengths, Message, Response, Service};
 use co_http::{Conn, Head, HttpFault, Verb};
 use co_link::{Request, Source, Target};
 use std::alloc::Global;
@@ -59,20 +61,18 @@ fn refuse(wanted: u64, verb: Verb, head: &Head) -> Option<Response>
     }
 }
 
-// Reads the body of a request for the target, and has it answered.
-fn answer_body<C: Source, S: Service>(
+// Reads the body of a request for the target.
+fn read_request<C: Source>(
     alloc: Global,
-    service: &mut S,
     conn: &mut Conn,
     line: &mut C,
     target: Target,
     length: u64,
-) -> Result<Response, Ended>
-    requires kept { kept conn.old ≡ None }
-    requires length { length ≡ S.wanted service.old target }
-    ensures answers { AnswersBody S.wanted S.steps service.old service.new target (unread conn.old (C.left line.old)) (unread conn.new (C.left line.new)) (C.left line.new) result }
-    ensures status { IfOk result (λ answer. IsTrue (is_status (status_of answer))) }
-    ensures kept { IfOk result (λ answer. closes answer ≡ false → kept conn.new ≡ None) }
+) -> Result<Message, Ended>
+    requires { kept conn.old ≡ None }
+    ensures reads { ReadsRequest length target (unread conn.old (C.left line.old)) (unread conn.new (C.left line.new)) (C.left line.new) result }
+    ensures status { IfOk result MayAnswer }
+    ensures kept { IfOk result (KeepsNone (kept conn.new)) }
     ensures writes { cannot_write conn.new ≡ cannot_write conn.old }
     ensures later { C.faults line.old ≤ C.faults line.new }
     ensures failed { result ≡ Err ReadFault → Rose (C.faults line.old) (C.faults line.new) }
@@ -81,14 +81,59 @@ fn answer_body<C: Source, S: Service>(
     let body = match conn.read_body(alloc, line, length) {
         Ok(body) => body,
         Err(HttpFault::EndOfInput) => return Err(Ended::Cut),
-        Err(HttpFault::OutOfMemory) => return Ok(Response::Refused { status: 503 }),
+        Err(HttpFault::OutOfMemory) => return Ok(refused(503)),
         Err(HttpFault::ReadFault) => return Err(Ended::ReadFault),
         Err(HttpFault::BadHead | HttpFault::HeadTooLong | HttpFault::WriteFault) => {
             unreachable!("no fault of a body")
         }
     };
-    let reply = service.step(&Request { target, body });
-    Ok(Response::Replied { reply })
+    Ok(Message::Asked {
+        request: Request { target, body },
+    })
+}
+
+/// Reads the next message: a request for a service, or one that is answered without it.
+pub fn next_message<C: Source, W: Lengths>(
+    alloc: Global,
+    lengths: &W,
+    conn: &mut Conn,
+    line: &mut C,
+) -> Result<Message, Ended>
+    requires { kept conn.old ≡ None }
+    ensures reads { ReadsNext (W.wanted lengths.now) (unread conn.old (C.left line.old)) (unread conn.new (C.left line.new)) (C.left line.new) result }
+    ensures status { IfOk result MayAnswer }
+    ensures kept { IfOk result (KeepsNone (kept conn.new)) }
+    ensures writes { cannot_write conn.new ≡ cannot_write conn.old }
+    ensures later { C.faults line.old ≤ C.faults line.new }
+    ensures failed { result ≡ Err ReadFault → Rose (C.faults line.old) (C.faults line.new) }
+    ensures beside { C.beside line.new ≡ C.beside line.old }
+{
+    let head = match conn.read_head(line) {
+        Ok(Some(head)) => head,
+        Ok(None) => return Err(Ended::Closed),
+        Err(HttpFault::BadHead) => return Ok(refused(400)),
+        Err(HttpFault::HeadTooLong) => return Ok(refused(431)),
+        Err(HttpFault::EndOfInput) => return Err(Ended::Cut),
+        Err(HttpFault::ReadFault) => return Err(Ended::ReadFault),
+        Err(HttpFault::WriteFault | HttpFault::OutOfMemory) => unreachable!("no fault of a head"),
+    };
+    let Some(target) = head.target else {
+        return Ok(refused(404));
+    };
+    let length = lengths.request_length(target);
+    match refuse(length, method_of(target), &head) {
+        Some(response) => Ok(Message::Refused { response }),
+        None => read_request(alloc, conn, line, target, length),
+    }
+}
+
+// A message that is answered by a status alone.
+fn refused(status: u16) -> Message
+    ensures { result ≡ messages.Refused (answers.Refused status) }
+{
+    Message::Refused {
+        response: Response::Refused { status },
+    }
 }
 
 /// Reads the next message and has it answered.
@@ -107,21 +152,12 @@ pub(crate) fn read_message<C: Source, S: Service>(
     ensures failed { result ≡ Err ReadFault → Rose (C.faults line.old) (C.faults line.new) }
     ensures beside { C.beside line.new ≡ C.beside line.old }
 {
-    let head = match conn.read_head(line) {
-        Ok(Some(head)) => head,
-        Ok(None) => return Err(Ended::Closed),
-        Err(HttpFault::BadHead) => return Ok(Response::Refused { status: 400 }),
-        Err(HttpFault::HeadTooLong) => return Ok(Response::Refused { status: 431 }),
-        Err(HttpFault::EndOfInput) => return Err(Ended::Cut),
-        Err(HttpFault::ReadFault) => return Err(Ended::ReadFault),
-        Err(HttpFault::WriteFault | HttpFault::OutOfMemory) => unreachable!("no fault of a head"),
-    };
-    let Some(target) = head.target else {
-        return Ok(Response::Refused { status: 404 });
-    };
-    let length = service.request_length(target);
-    match refuse(length, method_of(target), &head) {
-        Some(answer) => Ok(answer),
-        None => answer_body(alloc, service, conn, line, target, length),
+    match next_message(alloc, &*service, conn, line) {
+        Ok(Message::Refused { response }) => Ok(response),
+        Ok(Message::Asked { request }) => {
+            let reply = service.step(&request);
+            Ok(Response::Replied { reply })
+        }
+        Err(ended) => Err(ended),
     }
 }

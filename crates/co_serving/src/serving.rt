@@ -15,7 +15,7 @@ use co_link::{Duplex, Sink};
 use std::alloc::Global;
 
 /// The most responses on one connection; the last of them closes it.
-const MOST_RESPONSES: u32 = 1000;
+pub const MOST_RESPONSES: u32 = 1000;
 
 // The text that says that a length is wrong.
 fn say_length(wanted: u64, found: u64) -> ShortText
@@ -30,8 +30,8 @@ fn say_length(wanted: u64, found: u64) -> ShortText
     text
 }
 
-// The status of an answer that closes.
-fn status_if_closing(answer: &Response) -> Option<u16>
+/// The status of an answer that closes.
+pub fn status_if_closing(answer: &Response) -> Option<u16>
     ensures { result ≡ closing_status answer.now }
 {
     match answer {
@@ -41,8 +41,8 @@ fn status_if_closing(answer: &Response) -> Option<u16>
     }
 }
 
-// Writes the response of an answer, before which `count` responses came.
-fn write_answer<K: Sink>(
+/// Writes the response of an answer, before which `count` responses came.
+pub fn write_answer<K: Sink>(
     conn: &mut Conn,
     sink: &mut K,
     answer: &Response,
@@ -103,8 +103,9 @@ fn serve_next<C: Duplex, S: Service>(
     }
 }
 
-// How a connection ends with a response of this status that closes it, `requests` responses having been written.
-fn closed_by(requests: u32, status: u16) -> Ended
+/// How a connection ends with a response of this status that closes it, `requests` responses having
+/// been written.
+pub fn closed_by(requests: u32, status: u16) -> Ended
     ensures { result ≡ closing_end requests status }
 {
     if requests == MOST_RESPONSES {

@@ -13,14 +13,16 @@ struct Echo {
     alloc: Global,
 }
 
-impl Service for Echo {
+impl Lengths for Echo {
     ghost wanted = { λ s target. 4 };
-
-    ghost steps = { λ s request reply t. Unit {0} };
 
     fn request_length(&self, _target: Target) -> u64 {
         4
     }
+}
+
+impl Service for Echo {
+    ghost steps = { λ s request reply t. Unit {0} };
 
     fn step(&mut self, request: &Request) -> Reply {
         match Bytes::copy_of(self.alloc, request.body.as_slice()) {

@@ -9,5 +9,6 @@ pub mod ShapeLines
 pub mod Locals
 pub mod Connections
 pub mod Serving
+pub mod Served
 pub mod Remote
 pub mod Runs

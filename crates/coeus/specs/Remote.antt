@@ -93,6 +93,15 @@ SearchCause p was is (refusals.Search fault) = Sought p was is (Err fault)
 SearchCause p was is refusals.Memory = Unit {0}
 SearchCause p was is refusal = ⊥
 
+-- what is found over the dial, or a refusal by its cause; the dial is made at most once
+abbrev pub Finds : SearchWords → Outside → Outside → Result Found Refusal → Type 0
+Finds p was is (Ok found) = Sought p was is (Ok found)
+Finds p was is (Err refusal) = SearchCause p was is refusal
+
+pub record Asked (p : SearchWords) (was is : Outside) (result : Result Found Refusal) : Type 0 where
+  pub finds : Finds p was is result
+  pub dials : DialsOnce p was.devices.dial is.devices.dial
+
 -- the status of a search that can be answered: the dial tells exchanges that are honest to the library
 -- of a corpus, the published numbers pass the test, and the query has few terms. It is 0 where the
 -- plain hits can be placed, and 6 where they can't

@@ -7,7 +7,7 @@ use Rattle.co_serving.proofs.serving.serve_service.Given as goal
 abbrev pub invariant-serving : goal.invariant-serving
 invariant-serving g l = record {
   told : IfSome (g.C.Source.left l.fn.line) (λ input. IfSome (g.C.Sink.put_so_far l.fn.line) (λ put.
-      SoFar g.S.Service.wanted g.S.Service.steps l.fn.service l.service input (unread l.conn (g.C.Source.left l.line)) put (g.C.Sink.put_so_far l.line) l.requests));
+      SoFar g.S.Lengths.wanted g.S.Service.steps l.fn.service l.service input (unread l.conn (g.C.Source.left l.line)) put (g.C.Sink.put_so_far l.line) l.requests));
   kept : kept l.conn ≡ None;
   writes : cannot_write l.conn ≡ false;
   most : l.requests ≤ 1000;
