@@ -4,6 +4,7 @@ use Rattle.std.specs.Prelude.{IsSome}
 use Rattle.co_link.specs.Causes.{Rose}
 use Rattle.co_link.specs.Files.{Folder, file_at}
 use Rattle.co_corpus.specs.declared.documents.Document.{Document}
+use Rattle.co_corpus.specs.Documents.{IsCorpus}
 use Rattle.co_library.specs.Libraries.{Parts}
 use Rattle.co_library.specs.Files.{library_bytes}
 use Rattle.co_library.specs.Refusals.{IsPublished}
@@ -13,13 +14,16 @@ use Rattle.coeus.specs.Imports.{ImportAnswer, import_text}
 
 -- files that a read left alone, and then the library's bytes put under its name
 pub import_answer : (i : ImportWords) (held mid now : Option Folder) (documents : List Document) (library : Parts) (put line : List ℕ)
-    → HasCorpus held i.corpus documents → IsPublished documents i.settings library → mid ≡ held
+    → HasCorpus held i.corpus documents → IsCorpus documents → IsPublished documents i.settings library → mid ≡ held
     → (IsSome mid → file_at now i.library ≡ Some (Some put)) → put ≡ library_bytes library → line ≡ import_text library.shape
     → ImportAnswer i held now line
-import_answer i held mid now documents library put line corpus published same stands bytes text = record {
+import_answer i held mid now documents library put line corpus good published same stands bytes text = record {
   library = library;
   of_corpus = record { documents = documents; corpus = corpus; published = published };
-  written = λ told. stands (subst (λ (h : Option Folder). IsSome h) (sym same) told) ∙ ap (λ (b : List ℕ). Some (Some b)) bytes;
+  written = λ told. record {
+    stands = stands (subst (λ (h : Option Folder). IsSome h) (sym same) told) ∙ ap (λ (b : List ℕ). Some (Some b)) bytes;
+    of_corpus = record { corpus = good; built = published.built };
+  };
   text_is = text;
 }
 

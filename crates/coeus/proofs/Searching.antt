@@ -18,7 +18,7 @@ use Rattle.co_corpus.specs.declared.documents.Document.{Document}
 use Rattle.co_bucket.specs.Placement.{IsAssignment}
 use Rattle.co_bucket.proofs.OneAnswer.{refuses}
 use Rattle.co_library.specs.declared.settings.Settings.{Settings}
-use Rattle.co_library.specs.Libraries.{Parts}
+use Rattle.co_library.specs.Libraries.{Parts, IsLibrary}
 use Rattle.co_library.specs.Files.{library_in, library_bytes}
 use Rattle.co_library.proofs.FileFormat.{is_read_again}
 use Rattle.co_library.proofs.Ascending.{file_few}
@@ -37,8 +37,10 @@ use Rattle.coeus.specs.declared.refusals.Refusal.TheVariants.{Library, LibraryTo
 use Rattle.coeus.specs.Words.{SpokenLocal, LocalWords, joined}
 use Rattle.coeus.specs.Outside.{Outside, FilesState, HasNoFault, Took, TookFront}
 use Rattle.coeus.specs.Refusals.{status_of, status_of_refused}
-use Rattle.coeus.specs.Locals.{HasLibraryFile, HasImport, CanBeServed, OpenCause, IsSearched, Searched, LocalAnswer, LocalDue}
+use Rattle.coeus.specs.Imports.{HasImport}
+use Rattle.coeus.specs.Locals.{HasLibraryFile, CanBeServed, OpenCause, search_for, IsSearched, Searched, LocalAnswer, LocalCause, LocalDue}
 use Rattle.coeus.specs.Runs.{Answered, Interrupted, RefusedBy}
+use Rattle.coeus.proofs.Drawing.{is_drawn}
 use Rattle.coeus.proofs.Outcomes.{differ, same_value}
 
 -- ---- files
@@ -76,7 +78,7 @@ for_text text pick random = record { query = terms text; pick = pick; stream = r
 
 -- of a new link all exchanges are those of the search
 pub searched_over : (p : LocalWords) (library : Parts) (was is : Stream) (result : Result Found SearchFault) (text : List ℕ) (before now : List Exchange)
-    → text ≡ joined p.query → before ≡ [] → AreHonest library None now
+    → text ≡ joined p.query → before ≡ [] → IsLibrary library → AreHonest library None now
     → ((es : List Exchange) → made (Some before) (Some now) ≡ Some es → FollowsPlan es)
     → ((es : List Exchange) → made (Some before) (Some now) ≡ Some es → IsAnswered result → IsWholePlan es)
     → ((es : List Exchange) → made (Some before) (Some now) ≡ Some es → GoesOn (for_text text p.pick was) es)
@@ -87,17 +89,23 @@ pub searched_over : (p : LocalWords) (library : Parts) (was is : Stream) (result
     → ((es : List Exchange) → made (Some before) (Some now) ≡ Some es → (documents : List Document) (settings : Settings) (l : Parts) (held : Option (List ℕ))
     → IsLibraryFor documents settings l → AreHonest l held es → AnswersPlainly documents settings l (terms text) p.pick result)
     → IsSearched p library was is result
-searched_over p library was is result text before now same new honest planned whole going read refused asked plain =
+searched_over p library was is result text before now same new good honest planned whole going read refused asked plain =
     let all : made (Some before) (Some now) ≡ Some now = ap (λ (es : List Exchange). made (Some es) (Some now)) new in
+    let goes = subst (λ (t : List ℕ). GoesOn (for_text t p.pick was) now) same (going now all) in
+    let reads = subst (λ (t : List ℕ). IfOk result (IsRead (for_text t p.pick was) now)) same (read now all) in
+    let refuses = subst (λ (t : List ℕ). IfErr result (IsCause (for_text t p.pick was) now)) same (refused now all) in
+    let asks : (s : Numbers) (ts : List (List ℕ)) → Publishes now s ts → test_of s ≡ Ok s → Asks (search_for p was) now s ts result is =
+        λ s ts publishes passes. subst (λ (t : List ℕ). Asks (for_text t p.pick was) now s ts result is) same (asked now all s ts publishes passes) in
     record {
       exchanges = now;
       honest = honest;
       planned = planned now all;
       whole = whole now all;
-      going = subst (λ (t : List ℕ). GoesOn (for_text t p.pick was) now) same (going now all);
-      read = subst (λ (t : List ℕ). IfOk result (IsRead (for_text t p.pick was) now)) same (read now all);
-      refused = subst (λ (t : List ℕ). IfErr result (IsCause (for_text t p.pick was) now)) same (refused now all);
-      asked = λ s ts publishes passes. subst (λ (t : List ℕ). Asks (for_text t p.pick was) now s ts result is) same (asked now all s ts publishes passes);
+      going = goes;
+      read = reads;
+      refused = refuses;
+      asked = asks;
+      drawn = is_drawn p library was is result now good honest (whole now all) goes reads refuses asks;
       plain = λ documents settings built. subst (λ (t : List ℕ). AnswersPlainly documents settings library (terms t) p.pick result) same
           (plain now all documents settings library None built honest);
     }
@@ -120,6 +128,7 @@ not_begun p library random = record {
   read = tt;
   refused = tt;
   asked = λ s ts publishes passes. absurd (no_exchange publishes.first publishes.others publishes.are);
+  drawn = λ answered. absurd answered;
   plain = λ documents settings built. tt;
 }
 
@@ -147,11 +156,27 @@ local_unopened p was is (File Read) cause out files = record { cause = cause; ou
 local_unopened p was is Memory cause out files = record { cause = cause; out = out; files = files; draws = tt }
 local_unopened p was is refusal cause out files = absurd cause
 
+-- a link that never fails is no cause
+unsearched : (p : LocalWords) (was is : Outside) (fault : SearchFault) → Searched p was.files.held was.random is.random (Err fault)
+    → LocalCause p was is (Unsearched fault)
+unsearched p was is searching.Link s = absurd (omega (arith, s.search.refused.rose))
+unsearched p was is fault s = s
+
+searched : (p : LocalWords) (was is : Outside) (fault : SearchFault) → LocalCause p was is (Unsearched fault)
+    → Searched p was.files.held was.random is.random (Err fault)
+searched p was is searching.Link cause = absurd cause
+searched p was is fault cause = cause
+
 pub local_unsearched : (p : LocalWords) (was is : Outside) (library : Parts) (fault : SearchFault) → CanBeServed was.files.held p.library library
     → IsSearched p library was.random is.random (Err fault) → is.out.bytes ≡ was.out.bytes → is.files.held ≡ was.files.held
     → RefusedBy (SpokenLocal p) was is (Unsearched fault)
 local_unsearched p was is library fault served search out files =
-    record { cause = in_file p was.files.held was.random is.random (Err fault) library served search; out = out; files = files; draws = tt }
+    record {
+      cause = unsearched p was is fault (in_file p was.files.held was.random is.random (Err fault) library served search);
+      out = out;
+      files = files;
+      draws = tt;
+    }
 
 local_prints : (p : LocalWords) (was is : Outside) (library : Parts) (found : Found) (text : List ℕ) → CanBeServed was.files.held p.library library
     → IsSearched p library was.random is.random (Ok found) → text ≡ printed found → LocalAnswer p was.files.held was.random is.random text
@@ -215,5 +240,6 @@ pub local_due : (p : LocalWords) (was is : Outside) (refusal : Refusal) → HasN
     → (due : ℕ) → LocalDue p was.files.held due → (status_of refusal ≡ due) ⊎ (status_of refusal ≡ 10)
 local_due p was is Output kept r due d = absurd (kept.out r.took.rose)
 local_due p was is (Unsearched fault) kept r due d =
-    search_due p was.files.held was.random r.cause.search.exchanges fault due d (r.cause.plain d.documents d.settings d.library d.file) r.cause.search.refused
+    let s = searched p was is fault r.cause in
+    search_due p was.files.held was.random s.search.exchanges fault due d (s.plain d.documents d.settings d.library d.file) s.search.refused
 local_due p was is refusal kept r due d = inr (open_due p.library was.files is.files d.documents d.settings d.library refusal d.file d.passes kept.files r.cause)

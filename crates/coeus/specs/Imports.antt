@@ -7,7 +7,9 @@ use Rattle.co_noise.specs.Shapes.{Numbers}
 use Rattle.co_library.specs.Libraries.{Parts}
 use Rattle.co_library.specs.Files.{library_bytes}
 use Rattle.co_library.specs.Refusals.{IsPublished, IsRefused}
+use Rattle.co_library.specs.declared.settings.Settings.{Settings}
 use Rattle.co_library.specs.declared.publishing.PublishFault.{PublishFault}
+use Rattle.co_rounds.specs.Recording.{IsLibraryFor}
 use Rattle.coeus.specs.Words.{ImportWords}
 use Rattle.coeus.specs.Outside.{FilesState, Fails}
 use Rattle.coeus.specs.Searches.{HasCorpus, IsToldCorpus, ReadCause}
@@ -27,11 +29,17 @@ pub record HasLibrary (i : ImportWords) (held : Option Folder) (library : Parts)
   pub corpus : HasCorpus held i.corpus documents
   pub published : IsPublished documents i.settings library
 
+-- the files tell the bytes that are written for a corpus and settings: those of its library
+pub record HasImport (held : Option Folder) (name : List ℕ) (documents : List Document)
+    (settings : Settings) (library : Parts) : Type 0 where
+  pub stands : file_at held name ≡ Some (Some (library_bytes library))
+  pub of_corpus : IsLibraryFor documents settings library
+
 -- the library stands under its name, where the files tell, and the text is of its numbers
 pub record ImportAnswer (i : ImportWords) (was is : Option Folder) (text : List ℕ) : Type 0 where
   pub library : Parts
   pub of_corpus : HasLibrary i was library
-  pub written : IsSome was → file_at is i.library ≡ Some (Some (library_bytes library))
+  pub written : IsSome was → HasImport is i.library of_corpus.documents i.settings library
   pub text_is : text ≡ import_text library.shape
 
 -- the corpus is read and isn't published, by this fault

@@ -8,14 +8,17 @@ use Rattle.co_noise.specs.Shapes.{Numbers}
 use Rattle.co_noise.specs.Bounds.{test_of}
 use Rattle.co_noise.specs.declared.testing.TestFault.{TestFault}
 use Rattle.co_text.specs.Terms.{terms}
+use Rattle.co_text.specs.Numbers.{numbers_of}
 use Rattle.co_text.specs.Printed.{printed}
 use Rattle.co_text.specs.declared.found.Found.{Found}
 use Rattle.co_text.specs.declared.limits.TheConstants.{MAX_KEYWORDS}
 use Rattle.co_corpus.specs.declared.documents.Document.{Document}
+use Rattle.co_bucket.specs.Lists.{bucket_count}
 use Rattle.co_library.specs.declared.settings.Settings.{Settings}
 use Rattle.co_library.specs.Libraries.{Parts}
-use Rattle.co_library.specs.Files.{library_in, library_bytes}
+use Rattle.co_library.specs.Files.{library_in}
 use Rattle.co_rounds.specs.Honest.{AreHonest}
+use Rattle.co_rounds.specs.Asked.{Asked, IsAsked}
 use Rattle.co_rounds.specs.Plans.{FollowsPlan, IsWholePlan}
 use Rattle.co_rounds.specs.Placing.{CanBePlaced}
 use Rattle.co_rounds.specs.Recording.{IsLibraryFor}
@@ -23,10 +26,12 @@ use Rattle.co_client.specs.Causes.{Search, Publishes, IsRead, IsCause, IsAnswere
 use Rattle.co_client.specs.Going.{GoesOn}
 use Rattle.co_client.specs.Plain.{AnswersPlainly, plain_hits}
 use Rattle.co_client.specs.declared.fault.SearchFault.{SearchFault}
+use Rattle.co_client.specs.declared.fault.SearchFault.TheVariants as searching
 use Rattle.coeus.specs.declared.limits.TheConstants.{MAX_LIBRARY}
 use Rattle.coeus.specs.Words.{LocalWords, joined}
 use Rattle.coeus.specs.Outside.{FilesState, Outside, Fails}
 use Rattle.coeus.specs.Searches.{HasFile, query_of}
+use Rattle.coeus.specs.Imports.{HasImport}
 use Rattle.coeus.specs.declared.refusals.Refusal.{Refusal}
 use Rattle.coeus.specs.declared.refusals.Refusal.TheVariants as refusals
 
@@ -65,12 +70,6 @@ OpenCause name was is (refusals.File Read) = Fails (record { kind = Read; name =
 OpenCause name was is refusals.Memory = Unit {0}
 OpenCause name was is refusal = ⊥
 
--- the files tell the bytes that `import` writes for a corpus and settings: those of its library
-pub record HasImport (held : Option Folder) (name : List ℕ) (documents : List Document)
-    (settings : Settings) (library : Parts) : Type 0 where
-  pub stands : file_at held name ≡ Some (Some (library_bytes library))
-  pub of_corpus : IsLibraryFor documents settings library
-
 -- ---- the search
 
 -- a search for the terms of the query words, over a link that never fails
@@ -84,12 +83,23 @@ search_for p random = record {
   last_failed = None;
 }
 
+-- a search for few terms was drawn by a library's numbers: the secret, the keys, a query for each
+-- block of terms, one for each bucket and one for a bin; and this is left of the random words
+pub record IsDrawn (p : LocalWords) (library : Parts) (was is : Stream) : Type 0 where
+  pub few : length (query_of p.query) ≤ MAX_KEYWORDS
+  pub rows : List ℕ
+  pub count : length rows ≡ bucket_count library.shape.hits
+  pub bin : ℕ
+  pub asked : Asked
+  pub drawn : IsAsked library.shape (numbers_of library.terms (query_of p.query)) rows bin was
+      asked is
+
 -- a search over exchanges that are honest to a library has this result: number, order and lengths
 -- of its requests are planned by the published numbers, and one follows another only where few
 -- terms are asked, the numbers pass the test and the reply was taken; what it answers is read from
 -- them; they are the drawn ones, and after an answer or a refused placement the random words are
--- left where these draws leave them. If the library is that of a corpus, the result is the plain
--- answer, or that its hits can't be placed
+-- left where the draws of one search leave them. If the library is that of a corpus, the result is
+-- the plain answer, or that its hits can't be placed
 pub record IsSearched (p : LocalWords) (library : Parts) (was is : Stream)
     (result : Result Found SearchFault) : Type 0 where
   pub exchanges : List Exchange
@@ -101,6 +111,7 @@ pub record IsSearched (p : LocalWords) (library : Parts) (was is : Stream)
   pub refused : IfErr result (IsCause (search_for p was) exchanges)
   pub asked : (shape : Numbers) (names : List (List ℕ)) → Publishes exchanges shape names
       → test_of shape ≡ Ok shape → Asks (search_for p was) exchanges shape names result is
+  pub drawn : IsAnswered result → IsDrawn p library was is
   pub plain : (documents : List Document) (settings : Settings)
       → IsLibraryFor documents settings library
       → AnswersPlainly documents settings library (terms (joined p.query)) p.pick result
@@ -125,8 +136,9 @@ pub record LocalAnswer (p : LocalWords) (held : Option Folder) (was is : Stream)
   pub searched : Searched p held was is (Ok found)
   pub text_is : text ≡ printed found
 
--- when `local` refuses, but by the output
+-- when `local` refuses, but by the output; its link never fails
 abbrev pub LocalCause : LocalWords → Outside → Outside → Refusal → Type 0
+LocalCause p was is (refusals.Search searching.Link) = ⊥
 LocalCause p was is (refusals.Search fault) =
     Searched p was.files.held was.devices.random is.devices.random (Err fault)
 LocalCause p was is refusal = OpenCause p.library was.files is.files refusal

@@ -74,6 +74,7 @@ fn ask<T: Runs, R: Rng>(
     ensures { IsSearched (local_shown command.now) loaded.now
         (R.stream rng.old) (R.stream rng.new) result }
 {
+    let _ = loaded.library();
     let query = join(alloc, command.query)?;
     let mut link = LocalLink::new(rt, alloc, loaded, command.workers);
     let found = search(alloc, &mut link, rng, query.as_str(), command.pick);

@@ -43,6 +43,7 @@ pub fn import<F: Files, O: Sink>(
         devices (O.put_so_far out.new) (O.faults out.new)) result }
 {
     let corpus = read_documents(alloc, command.corpus, files)?;
+    let _ = corpus.as_slice();
     let library = match publish(alloc, &corpus, &command.settings) {
         Ok(library) => library,
         Err(PublishFault::OutOfMemory) => return Err(Refusal::Memory),
