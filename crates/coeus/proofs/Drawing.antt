@@ -31,12 +31,19 @@ use Rattle.coeus.proofs.Outcomes.{same_value}
 
 -- ---- the numbers that are published
 
-five : (es : List Exchange) (s : Numbers) → trace es ≡ plan s → length es ≡ 5
-five es s all = sym (length-map es (λ (e : Exchange). (e.request.target, length e.request.body))) ∙ ap length all
+-- what the outside sees of a request
+abbrev seen_of : Exchange → Seen
+seen_of e = (e.request.target, length e.request.body)
 
--- what the outside sees of the first request
-first_seen : (e : Exchange) (es : List Exchange) (s : Numbers) → trace (e ∷ es) ≡ plan s → (e.request.target, length e.request.body) ≡ (Public, 0)
-first_seen e es s all = ap (λ (seen : List Seen). slice_index_or seen 0 (Public, 0)) all
+five : (es : List Exchange) (s : Numbers) → trace es ≡ plan s → length es ≡ 5
+five es s all = sym (length-map es seen_of) ∙ ap length all
+
+-- and of the first
+abbrev for_public : Seen
+for_public = (Public, 0)
+
+first_seen : (e : Exchange) (es : List Exchange) (s : Numbers) → trace (e ∷ es) ≡ plan s → seen_of e ≡ for_public
+first_seen e es s all = ap (λ (seen : List Seen). slice_index_or seen 0 for_public) all
 
 first_told : (l : Parts) → IsLibrary l → (e : Exchange) → IsHonest l None e → e.request.target ≡ Public → e.request.body ≡ [] → e.reply.status ≡ 200
     → public_of e.reply.body ≡ Ok (l.shape, l.terms)
@@ -44,14 +51,17 @@ first_told l library e honest target body status =
     public_told l library None [] e.reply.body
     (subst (IsHonest l None) (λ i. record { request = record { target = target i; body = body i }; reply = record { status = status i; body = e.reply.body } }) honest)
 
+abbrev pub told : Numbers → List (List ℕ) → Numbers × List (List ℕ)
+told shape names = (shape, names)
+
 -- over all planned exchanges, honest to a library, the published numbers and terms are the library's
 library_told : (run : Search) (l : Parts) (es : List Exchange) (s shape : Numbers) (names : List (List ℕ)) → IsLibrary l → AreHonest l None es → GoesOn run es
-    → trace es ≡ plan s → Publishes es shape names → (shape, names) ≡ (l.shape, l.terms)
+    → trace es ≡ plan s → Publishes es shape names → told shape names ≡ told l.shape l.terms
 library_told run l es s shape names library honest going all p =
     let seen = first_seen p.first p.others s (subst (λ (xs : List Exchange). trace xs ≡ plan s) p.are all) in
     let first : IsHonest l None p.first × AreHonest l (held_after None p.first) p.others = subst (AreHonest l None) p.are honest in
     let taken : p.first.reply.status ≡ 200 = going.taken 0 p.first (ap (λ (xs : List Exchange). slice_get xs 0) p.are) (omega (arith, five es s all)) in
-    same_value (public_of p.first.reply.body) (shape, names) (l.shape, l.terms) p.read
+    same_value (public_of p.first.reply.body) (told shape names) (told l.shape l.terms) p.read
     (first_told l library p.first first.0 (ap (λ (x : Seen). x.0) seen) (nil_from_length p.first.request.body (ap (λ (x : Seen). x.1) seen)) taken)
 
 -- ---- the draws
@@ -62,7 +72,7 @@ rows_count s hits placed =
 
 asked_by : (p : LocalWords) (l : Parts) (was is : Stream) (result : Result Found SearchFault) (es : List Exchange) (shape : Numbers) (names : List (List ℕ))
     (asks : Asks (search_for p was) es shape names result is) → length asks.rows ≡ bucket_count shape.hits → IsAnswered result
-    → length (query_of p.query) ≤ 16 → (shape, names) ≡ (l.shape, l.terms) → IsDrawn p l was is
+    → length (query_of p.query) ≤ 16 → told shape names ≡ told l.shape l.terms → IsDrawn p l was is
 asked_by p l was is result es shape names asks count answered few same = record {
   few = few;
   rows = asks.rows;

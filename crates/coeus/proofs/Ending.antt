@@ -1,6 +1,6 @@
 -- How a command ends, by the causes of its steps.
-use Rattle.std.proofs.Common.{◌≡◌, ◌≢◌, ◌⊎◌, ℕ, List, Option, Some, None, Ok, Err, refl, sym, ap, subst, ◌∙◌, inl, inr, arith}
-use Rattle.std.specs.Prelude.{Result, IsErr, IsOk}
+use Rattle.std.proofs.Common.{◌≡◌, ◌≢◌, ◌≤◌, ◌⊎◌, ℕ, List, Option, Some, None, Ok, Err, refl, sym, ap, subst, ◌∙◌, inl, inr, arith}
+use Rattle.std.specs.Prelude.{Result, IsErr, IsOk, Bool, true, false, ◌==◌, if◌then◌else◌}
 use mathlib.Core.Bool.{true≢false}
 use Rattle.rand_core.specs.Stream.{Stream}
 use Rattle.co_link.specs.Causes.{Rose}
@@ -19,14 +19,16 @@ use Rattle.co_library.specs.declared.settings.Settings.{Settings}
 use Rattle.co_library.specs.declared.publishing.PublishFault.{PublishFault}
 use Rattle.co_library.specs.declared.publishing.PublishFault.TheVariants as publishing
 use Rattle.co_library.proofs.OneAnswer.{no_refusal}
+use Rattle.co_client.specs.declared.fault.SearchFault.{SearchFault}
+use Rattle.co_client.specs.declared.fault.SearchFault.TheVariants as searching
 use Rattle.coeus.proofs.Outcomes.{differ, same_value}
 use Rattle.coeus.proofs.Searching.{local_due, local_placed}
 use Rattle.coeus.specs.declared.limits.TheConstants.{MAX_CORPUS}
 use Rattle.coeus.specs.declared.refusals.Refusal.{Refusal}
-use Rattle.coeus.specs.declared.refusals.Refusal.TheVariants.{Corpus, CorpusTooLong, Publish, Test, Keywords, File, Output, Memory}
+use Rattle.coeus.specs.declared.refusals.Refusal.TheVariants.{Corpus, CorpusTooLong, Publish, Test, Keywords, Search, File, Output, Memory}
 use Rattle.coeus.specs.Words.{Spoken, SpokenPlain, SpokenImport, SpokenShape, SpokenLocal, SpokenWrong, PlainWords, ImportWords, spoken}
 use Rattle.coeus.specs.Outside.{Outside, FilesState, SinkState, HasNoFault}
-use Rattle.coeus.specs.Refusals.{status_of, status_of_publishing, text_of, Says}
+use Rattle.coeus.specs.Refusals.{status_of, status_of_publishing, status_of_search, text_of, Says}
 use Rattle.coeus.specs.Searches.{HasCorpus, IsToldCorpus, ReadCause, TextCause, CanBeSearched}
 use Rattle.coeus.specs.Imports.{CanBeImported}
 use Rattle.coeus.specs.ShapeLines.{status_of_test}
@@ -171,6 +173,14 @@ unchanged command was is Output r other = absurd (other refl)
 unchanged command was is (File Write) r other = absurd (other refl)
 unchanged command was is refusal r other = r.files
 
+refused_positive : (b : Bool) → 8 ≤ (if b then 10 else 8)
+refused_positive true = omega arith
+refused_positive false = omega arith
+
+search_positive : (fault : SearchFault) → status_of_search fault ≢ 0
+search_positive (searching.Refused target status) zero = absurd (omega (arith, refused_positive (status == 503), zero))
+search_positive fault zero = absurd cc
+
 -- no refusal has status 0
 positive : (refusal : Refusal) → status_of refusal ≢ 0
 positive (Corpus OutOfMemory) zero = absurd cc
@@ -178,6 +188,7 @@ positive (Corpus fault) zero = absurd cc
 positive (Publish (publishing.Test fault)) zero = absurd cc
 positive (Publish publishing.OutOfMemory) zero = absurd cc
 positive (Publish fault) zero = absurd cc
+positive (Search fault) zero = search_positive fault zero
 positive refusal zero = absurd cc
 
 pub ran_answered : (words : List (List ℕ)) (command : Spoken) (was is : Outside) (err : SinkState) → command ≡ spoken words → Answered command was is

@@ -11,7 +11,6 @@ use Rattle.co_noise.specs.Shapes.{Numbers}
 use Rattle.co_noise.specs.Bounds.{test_of}
 use Rattle.co_noise.specs.declared.testing.TestFault.{TestFault}
 use Rattle.co_text.specs.Terms.{terms, distinct}
-use Rattle.co_text.specs.Printed.{printed}
 use Rattle.co_text.specs.declared.found.Found.{Found}
 use Rattle.co_text.specs.declared.ranks.Ranked.{Ranked}
 use Rattle.co_corpus.specs.declared.documents.Document.{Document}
@@ -35,11 +34,11 @@ use Rattle.coeus.specs.declared.limits.TheConstants.{MAX_LIBRARY}
 use Rattle.coeus.specs.declared.refusals.Refusal.{Refusal}
 use Rattle.coeus.specs.declared.refusals.Refusal.TheVariants.{Library, LibraryTooLong, Test, Search as Unsearched, File, Output, Memory}
 use Rattle.coeus.specs.Words.{SpokenLocal, LocalWords, joined}
-use Rattle.coeus.specs.Outside.{Outside, FilesState, HasNoFault, Took, TookFront}
+use Rattle.coeus.specs.Outside.{Outside, FilesState, HasNoFault}
 use Rattle.coeus.specs.Refusals.{status_of, status_of_refused}
 use Rattle.coeus.specs.Imports.{HasImport}
-use Rattle.coeus.specs.Locals.{HasLibraryFile, CanBeServed, OpenCause, search_for, IsSearched, Searched, LocalAnswer, LocalCause, LocalDue}
-use Rattle.coeus.specs.Runs.{Answered, Interrupted, RefusedBy}
+use Rattle.coeus.specs.Locals.{HasLibraryFile, CanBeServed, OpenCause, search_for, IsSearched, Searched, HasFound, FindCause, LocalAnswer, LocalCause, LocalDue}
+use Rattle.coeus.specs.Runs.{Answered, RefusedBy}
 use Rattle.coeus.proofs.Drawing.{is_drawn}
 use Rattle.coeus.proofs.Outcomes.{differ, same_value}
 
@@ -147,53 +146,47 @@ in_file p held was is result library served search = record {
 
 -- ---- how the command ends
 
-pub local_unopened : (p : LocalWords) (was is : Outside) (refusal : Refusal) → OpenCause p.library was.files is.files refusal
-    → is.out.bytes ≡ was.out.bytes → is.files.held ≡ was.files.held → RefusedBy (SpokenLocal p) was is refusal
-local_unopened p was is (Library place) cause out files = record { cause = cause; out = out; files = files; draws = tt }
-local_unopened p was is LibraryTooLong cause out files = record { cause = cause; out = out; files = files; draws = tt }
-local_unopened p was is (Test fault) cause out files = record { cause = cause; out = out; files = files; draws = tt }
-local_unopened p was is (File Read) cause out files = record { cause = cause; out = out; files = files; draws = tt }
-local_unopened p was is Memory cause out files = record { cause = cause; out = out; files = files; draws = tt }
-local_unopened p was is refusal cause out files = absurd cause
+pub not_opened : (p : LocalWords) (was is : FilesState) (random left : Stream) (refusal : Refusal) → OpenCause p.library was is refusal
+    → LocalCause p was is random left refusal
+not_opened p was is random left (Library place) cause = cause
+not_opened p was is random left LibraryTooLong cause = cause
+not_opened p was is random left (Test fault) cause = cause
+not_opened p was is random left (File Read) cause = cause
+not_opened p was is random left Memory cause = tt
+not_opened p was is random left refusal cause = absurd cause
 
 -- a link that never fails is no cause
-unsearched : (p : LocalWords) (was is : Outside) (fault : SearchFault) → Searched p was.files.held was.random is.random (Err fault)
-    → LocalCause p was is (Unsearched fault)
-unsearched p was is searching.Link s = absurd (omega (arith, s.search.refused.rose))
-unsearched p was is fault s = s
+unsearched : (p : LocalWords) (was is : FilesState) (random left : Stream) (fault : SearchFault) → Searched p was.held random left (Err fault)
+    → LocalCause p was is random left (Unsearched fault)
+unsearched p was is random left searching.Link s = absurd (omega (arith, s.search.refused.rose))
+unsearched p was is random left fault s = s
 
-searched : (p : LocalWords) (was is : Outside) (fault : SearchFault) → LocalCause p was is (Unsearched fault)
-    → Searched p was.files.held was.random is.random (Err fault)
-searched p was is searching.Link cause = absurd cause
-searched p was is fault cause = cause
+searched : (p : LocalWords) (was is : FilesState) (random left : Stream) (fault : SearchFault) → LocalCause p was is random left (Unsearched fault)
+    → Searched p was.held random left (Err fault)
+searched p was is random left searching.Link cause = absurd cause
+searched p was is random left fault cause = cause
 
-pub local_unsearched : (p : LocalWords) (was is : Outside) (library : Parts) (fault : SearchFault) → CanBeServed was.files.held p.library library
-    → IsSearched p library was.random is.random (Err fault) → is.out.bytes ≡ was.out.bytes → is.files.held ≡ was.files.held
-    → RefusedBy (SpokenLocal p) was is (Unsearched fault)
-local_unsearched p was is library fault served search out files =
-    record {
-      cause = unsearched p was is fault (in_file p was.files.held was.random is.random (Err fault) library served search);
-      out = out;
-      files = files;
-      draws = tt;
-    }
+pub not_found : (p : LocalWords) (was is : FilesState) (random left : Stream) (library : Parts) (refusal : Refusal) → CanBeServed was.held p.library library
+    → FindCause p library random left refusal → LocalCause p was is random left refusal
+not_found p was is random left library (Unsearched fault) served cause =
+    unsearched p was is random left fault (in_file p was.held random left (Err fault) library served cause)
+not_found p was is random left library Memory served cause = tt
+not_found p was is random left library refusal served cause = absurd cause
 
-local_prints : (p : LocalWords) (was is : Outside) (library : Parts) (found : Found) (text : List ℕ) → CanBeServed was.files.held p.library library
-    → IsSearched p library was.random is.random (Ok found) → text ≡ printed found → LocalAnswer p was.files.held was.random is.random text
-local_prints p was is library found text served search text_is =
-    record { found = found; searched = in_file p was.files.held was.random is.random (Ok found) library served search; text_is = text_is }
+pub found_text : (p : LocalWords) (held : Option Folder) (was is : Stream) (library : Parts) (text : List ℕ) → CanBeServed held p.library library
+    → HasFound p library was is text → LocalAnswer p held was is text
+found_text p held was is library text served h =
+    record { found = h.found; searched = in_file p held was is (Ok h.found) library served h.search; text_is = h.text_is }
 
-pub local_answered : (p : LocalWords) (was is : Outside) (library : Parts) (found : Found) (text : List ℕ) → CanBeServed was.files.held p.library library
-    → IsSearched p library was.random is.random (Ok found) → text ≡ printed found → Took was.out is.out text → is.files.held ≡ was.files.held
-    → Answered (SpokenLocal p) was is
-local_answered p was is library found text served search text_is took files =
-    record { text = text; prints = local_prints p was is library found text served search text_is; passes = tt; took = took; keeps = files; draws = tt }
-
-pub local_interrupted : (p : LocalWords) (was is : Outside) (library : Parts) (found : Found) (text : List ℕ) → CanBeServed was.files.held p.library library
-    → IsSearched p library was.random is.random (Ok found) → text ≡ printed found → TookFront was.out is.out text → is.files.held ≡ was.files.held
-    → Interrupted (SpokenLocal p) was is
-local_interrupted p was is library found text served search text_is took files =
-    record { text = text; prints = local_prints p was is library found text served search text_is; took = took; keeps = files; draws = tt }
+pub local_refused : (p : LocalWords) (was is : Outside) (refusal : Refusal) → LocalCause p was.files is.files was.random is.random refusal
+    → is.out.bytes ≡ was.out.bytes → is.files.held ≡ was.files.held → RefusedBy (SpokenLocal p) was is refusal
+local_refused p was is (Library place) cause out files = record { cause = cause; out = out; files = files; draws = tt }
+local_refused p was is LibraryTooLong cause out files = record { cause = cause; out = out; files = files; draws = tt }
+local_refused p was is (Test fault) cause out files = record { cause = cause; out = out; files = files; draws = tt }
+local_refused p was is (Unsearched fault) cause out files = record { cause = cause; out = out; files = files; draws = tt }
+local_refused p was is (File Read) cause out files = record { cause = cause; out = out; files = files; draws = tt }
+local_refused p was is Memory cause out files = record { cause = cause; out = out; files = files; draws = tt }
+local_refused p was is refusal cause out files = absurd cause
 
 -- ---- the status that is due
 
@@ -240,6 +233,6 @@ pub local_due : (p : LocalWords) (was is : Outside) (refusal : Refusal) → HasN
     → (due : ℕ) → LocalDue p was.files.held due → (status_of refusal ≡ due) ⊎ (status_of refusal ≡ 10)
 local_due p was is Output kept r due d = absurd (kept.out r.took.rose)
 local_due p was is (Unsearched fault) kept r due d =
-    let s = searched p was is fault r.cause in
+    let s = searched p was.files is.files was.random is.random fault r.cause in
     search_due p was.files.held was.random s.search.exchanges fault due d (s.plain d.documents d.settings d.library d.file) s.search.refused
 local_due p was is refusal kept r due d = inr (open_due p.library was.files is.files d.documents d.settings d.library refusal d.file d.passes kept.files r.cause)

@@ -29,7 +29,7 @@ use Rattle.co_client.specs.declared.fault.SearchFault.{SearchFault}
 use Rattle.co_client.specs.declared.fault.SearchFault.TheVariants as searching
 use Rattle.coeus.specs.declared.limits.TheConstants.{MAX_LIBRARY}
 use Rattle.coeus.specs.Words.{LocalWords, joined}
-use Rattle.coeus.specs.Outside.{FilesState, Outside, Fails}
+use Rattle.coeus.specs.Outside.{FilesState, Fails}
 use Rattle.coeus.specs.Searches.{HasFile, query_of}
 use Rattle.coeus.specs.Imports.{HasImport}
 use Rattle.coeus.specs.declared.refusals.Refusal.{Refusal}
@@ -127,6 +127,19 @@ pub record Searched (p : LocalWords) (held : Option Folder) (was is : Stream)
       → HasImport held p.library documents settings imported
       → AnswersPlainly documents settings imported (terms (joined p.query)) p.pick result
 
+-- the text of what is found in a library
+pub record HasFound (p : LocalWords) (library : Parts) (was is : Stream)
+    (text : List ℕ) : Type 0 where
+  pub found : Found
+  pub search : IsSearched p library was is (Ok found)
+  pub text_is : text ≡ printed found
+
+-- why there is no such text; want of memory has no cause
+abbrev pub FindCause : LocalWords → Parts → Stream → Stream → Refusal → Type 0
+FindCause p library was is (refusals.Search fault) = IsSearched p library was is (Err fault)
+FindCause p library was is refusals.Memory = Unit {0}
+FindCause p library was is refusal = ⊥
+
 -- ---- the command
 
 -- the text of what is found
@@ -137,11 +150,11 @@ pub record LocalAnswer (p : LocalWords) (held : Option Folder) (was is : Stream)
   pub text_is : text ≡ printed found
 
 -- when `local` refuses, but by the output; its link never fails
-abbrev pub LocalCause : LocalWords → Outside → Outside → Refusal → Type 0
-LocalCause p was is (refusals.Search searching.Link) = ⊥
-LocalCause p was is (refusals.Search fault) =
-    Searched p was.files.held was.devices.random is.devices.random (Err fault)
-LocalCause p was is refusal = OpenCause p.library was.files is.files refusal
+abbrev pub LocalCause : LocalWords → FilesState → FilesState → Stream → Stream → Refusal → Type 0
+LocalCause p was is random left (refusals.Search searching.Link) = ⊥
+LocalCause p was is random left (refusals.Search fault) =
+    Searched p was.held random left (Err fault)
+LocalCause p was is random left refusal = OpenCause p.library was is refusal
 
 -- the status of a search that can be answered: the file is told and was written by `import`, its
 -- library passes the test, and the query has few terms. It is 0 where the plain hits can be placed,

@@ -45,7 +45,8 @@ Cause (SpokenPlain p) was is refusal = PlainCause p was.files is.files refusal
 Cause (SpokenImport i) was is refusal = ImportCause i was.files is.files refusal
 Cause (SpokenShape s) was is (refusals.Test fault) = test_of s ≡ Err fault
 Cause (SpokenShape s) was is refusal = refusal ≡ refusals.Memory
-Cause (SpokenLocal p) was is refusal = LocalCause p was is refusal
+Cause (SpokenLocal p) was is refusal =
+    LocalCause p was.files is.files was.devices.random is.devices.random refusal
 Cause (SpokenServe p) was is refusal = ServeCause p was is refusal
 Cause (SpokenSearch p) was is refusal = SearchCause p was is refusal
 Cause SpokenWrong was is refusal = refusal ≡ refusals.Words

@@ -4,6 +4,7 @@ ghost use Rattle.coeus.specs.Words.{SpokenLocal};
 ghost use Rattle.coeus.specs.Commands.{local_shown, IsWithinRanges};
 ghost use Rattle.coeus.specs.Outside.{DialState, PortState, files_state, devices, outside_of};
 ghost use Rattle.coeus.specs.Locals.{HasLibraryFile, CanBeServed, OpenCause, IsSearched};
+ghost use Rattle.coeus.specs.Locals.{HasFound, FindCause, LocalAnswer, LocalCause};
 ghost use Rattle.coeus.specs.Runs.{Ended};
 
 use crate::limits::MAX_LIBRARY;
@@ -11,7 +12,7 @@ use crate::refusals::Refusal;
 use crate::words::{LocalCommand, join};
 use co_client::{SearchFault, search};
 use co_library::{Library, LibraryFault};
-use co_link::{FileFault, FileKind, Files, Sink};
+use co_link::{Bytes, FileFault, FileKind, Files, Sink};
 use co_noise::test;
 use co_server::{Loaded, LocalLink, Runs};
 use co_text::{Found, render};
@@ -75,11 +76,60 @@ fn ask<T: Runs, R: Rng>(
         (R.stream rng.old) (R.stream rng.new) result }
 {
     let _ = loaded.library();
-    let query = join(alloc, command.query)?;
+    let Ok(query) = join(alloc, command.query) else {
+        return Err(SearchFault::OutOfMemory);
+    };
     let mut link = LocalLink::new(rt, alloc, loaded, command.workers);
     let found = search(alloc, &mut link, rng, query.as_str(), command.pick);
     let _ = link.exchanges();
     found
+}
+
+/// The text of what a search finds.
+fn answer<T: Runs, R: Rng>(
+    rt: &T,
+    alloc: Global,
+    loaded: &Loaded,
+    command: &LocalCommand<'_>,
+    rng: &mut R,
+) -> Result<Bytes, Refusal>
+    requires shared { T.is_shared }
+    requires ranges { IsWithinRanges command.now }
+    ensures ok { IfOk result (HasFound (local_shown command.now) loaded.now
+        (R.stream rng.old) (R.stream rng.new)) }
+    ensures cause { IfErr result (FindCause (local_shown command.now) loaded.now
+        (R.stream rng.old) (R.stream rng.new)) }
+{
+    match ask(rt, alloc, loaded, command, rng) {
+        Ok(found) => match render(alloc, &found) {
+            Ok(text) => Ok(text),
+            Err(_) => Err(Refusal::Memory),
+        },
+        Err(fault) => Err(Refusal::Search(fault)),
+    }
+}
+
+/// The text of what a search finds in the library of a file.
+fn find<T: Runs, F: Files, R: Rng>(
+    rt: &T,
+    alloc: Global,
+    command: &LocalCommand<'_>,
+    files: &mut F,
+    rng: &mut R,
+) -> Result<Bytes, Refusal>
+    requires shared { T.is_shared }
+    requires ranges { IsWithinRanges command.now }
+    ensures ok { IfOk result (LocalAnswer (local_shown command.now) (F.held files.old)
+        (R.stream rng.old) (R.stream rng.new)) }
+    ensures cause { let was = files_state
+        (F.held files.old) (F.faults files.old) (F.last_failed files.old) in
+        let is = files_state (F.held files.new) (F.faults files.new) (F.last_failed files.new) in
+        IfErr result (LocalCause (local_shown command.now) was is
+        (R.stream rng.old) (R.stream rng.new)) }
+    ensures files { F.held files.new ≡ F.held files.old }
+{
+    let loaded = load(alloc, command.library, files)?;
+    answer(rt, alloc, &loaded, command, rng)
 }
 
 /// Searches a library, and puts the answer on the output. It has nothing to do with a dial or a
@@ -101,14 +151,7 @@ pub fn local<T: Runs, F: Files, R: Rng, O: Sink>(
         (outside_of (F.held files.new) (F.faults files.new) (F.last_failed files.new)
         (devices (R.stream rng.new) dial port) (O.put_so_far out.new) (O.faults out.new)) result }
 {
-    let loaded = load(alloc, command.library, files)?;
-    let found = match ask(rt, alloc, &loaded, command, rng) {
-        Ok(found) => found,
-        Err(fault) => return Err(Refusal::Search(fault)),
-    };
-    let Ok(text) = render(alloc, &found) else {
-        return Err(Refusal::Memory);
-    };
+    let text = find(rt, alloc, command, files, rng)?;
     match out.put(text.as_slice()) {
         Ok(()) => Ok(()),
         Err(_) => Err(Refusal::Output),

@@ -53,7 +53,7 @@ pub fn status_of_search(fault: &SearchFault) -> u8
 }
 
 // Says a text with a round and a number.
-fn say_round<E: Sink>(before: &str, target: Target, number: u64, err: &mut E)
+fn say_round<E: Sink>(before: &'static str, target: Target, number: u64, err: &mut E)
     ensures { let was = sink_state (E.put_so_far err.old) (E.faults err.old) in
         let is = sink_state (E.put_so_far err.new) (E.faults err.new) in
         Says (round_text before.now target number) was is }

@@ -32,9 +32,9 @@ returns-in-Err-OutOfMemory-write g c = λ random. record {
 pub returns-in-Ok-put : goal.returns-in-Ok-put
 returns-in-Ok-put g c = λ random. record {
   text = c.as_bytes.result.now;
-  prints = import_answer (import_shown c.args.command.now) _ _ _ c.in_ok-corpus.corpus c.in-Ok.library c.as_slice.result.now c.as_bytes.result.now
+  prints = import_answer (import_shown c.args.command.now) _ _ _ c.in_ok-corpus.corpus c.in-Ok.library c.as_slice-2.result.now c.as_bytes.result.now
       c.in_ok-corpus.ensures.ok c.as_slice.ensures.corpus c.in-Ok.ensures.published c.read_documents.ensures.files c.in-Ok-write-2.ensures.bytes.put
-      (c.as_slice.ensures ∙ c.in-Ok-write.ensures) (c.as_bytes.ensures.value ∙ c.in-Ok-numbers_line.ensures ∙ ap import_text c.shape.ensures.value);
+      (c.as_slice-2.ensures ∙ c.in-Ok-write.ensures) (c.as_bytes.ensures.value ∙ c.in-Ok-numbers_line.ensures ∙ ap import_text c.shape.ensures.value);
   passes = tt;
   took = c.in-Ok-put.ensures.bytes;
   keeps = λ name differs. others_kept _ _ _ name c.read_documents.ensures.files (c.write-2.ensures.bytes.others name differs);
@@ -44,9 +44,9 @@ returns-in-Ok-put g c = λ random. record {
 pub returns : goal.returns
 returns g c = λ random. record {
   text = c.as_bytes.result.now;
-  prints = import_answer (import_shown c.args.command.now) _ _ _ c.in_ok-corpus.corpus c.in-Ok.library c.as_slice.result.now c.as_bytes.result.now
+  prints = import_answer (import_shown c.args.command.now) _ _ _ c.in_ok-corpus.corpus c.in-Ok.library c.as_slice-2.result.now c.as_bytes.result.now
       c.in_ok-corpus.ensures.ok c.as_slice.ensures.corpus c.in-Ok.ensures.published c.read_documents.ensures.files c.in-Ok-write-2.ensures.bytes.put
-      (c.as_slice.ensures ∙ c.in-Ok-write.ensures) (c.as_bytes.ensures.value ∙ c.in-Ok-numbers_line.ensures ∙ ap import_text c.shape.ensures.value);
+      (c.as_slice-2.ensures ∙ c.in-Ok-write.ensures) (c.as_bytes.ensures.value ∙ c.in-Ok-numbers_line.ensures ∙ ap import_text c.shape.ensures.value);
   took = record { front = c.in-Err-put.ensures.bytes; rose = c.in-Err-put.ensures.cause.failed };
   keeps = λ name differs. others_kept _ _ _ name c.read_documents.ensures.files (c.write-2.ensures.bytes.others name differs);
   draws = refl;
