@@ -1,16 +1,15 @@
 -- What `local` leaves and says, from what its search gave.
-use Rattle.std.proofs.Common.{◌≡◌, ◌⊎◌, ◌<◌, ◌≤◌, ℕ, List, [], ◌∷◌, length, map, drop, Option, Some, None, Ok, Err, refl, sym, ap, subst, ◌∙◌, inl, inr, arith}
+use Rattle.std.proofs.Common.{◌≡◌, ◌⊎◌, ◌<◌, ℕ, List, [], ◌∷◌, length, Option, Some, None, Ok, Err, refl, sym, ap, subst, ◌∙◌, inl, inr, arith}
 use Rattle.std.specs.Prelude.{Result, IsSome, IfOk, IfErr}
 use Rattle.std.proofs.lemmas.List.{length-map}
 use Rattle.rand_core.specs.Stream.{Stream}
 use Rattle.co_link.specs.Causes.{Rose}
 use Rattle.co_link.specs.Files.{Folder, file_at, IsLonger}
-use Rattle.co_link.specs.declared.files.FileKind.TheVariants.{Read, Write}
+use Rattle.co_link.specs.declared.files.FileKind.TheVariants.{Read}
 use Rattle.co_link.specs.declared.messages.Exchange.{Exchange}
 use Rattle.co_noise.specs.Shapes.{Numbers}
 use Rattle.co_noise.specs.Bounds.{test_of}
-use Rattle.co_noise.specs.declared.testing.TestFault.{TestFault}
-use Rattle.co_text.specs.Terms.{terms, distinct}
+use Rattle.co_text.specs.Terms.{terms}
 use Rattle.co_text.specs.declared.found.Found.{Found}
 use Rattle.co_text.specs.declared.ranks.Ranked.{Ranked}
 use Rattle.co_corpus.specs.declared.documents.Document.{Document}
@@ -94,7 +93,7 @@ searched_over p library was is result text before now same new good honest plann
     let reads = subst (λ (t : List ℕ). IfOk result (IsRead (for_text t p.pick was) now)) same (read now all) in
     let refuses = subst (λ (t : List ℕ). IfErr result (IsCause (for_text t p.pick was) now)) same (refused now all) in
     let asks : (s : Numbers) (ts : List (List ℕ)) → Publishes now s ts → test_of s ≡ Ok s → Asks (search_for p was) now s ts result is =
-        λ s ts publishes passes. subst (λ (t : List ℕ). Asks (for_text t p.pick was) now s ts result is) same (asked now all s ts publishes passes) in
+    λ s ts publishes passes. subst (λ (t : List ℕ). Asks (for_text t p.pick was) now s ts result is) same (asked now all s ts publishes passes) in
     record {
       exchanges = now;
       honest = honest;
