@@ -25,7 +25,7 @@ Prints (SpokenShape s) was is text = text ≡ shape_text s
 Prints (SpokenLocal p) was is text =
     LocalAnswer p was.files.held was.devices.random is.devices.random text
 Prints (SpokenServe p) was is text = ServeAnswer p was is text
-Prints (SpokenSearch p) was is text = SearchAnswer p was is text
+Prints (SpokenSearch p) was is text = SearchAnswer p was.devices is.devices text
 Prints SpokenWrong was is text = ⊥
 
 -- the text of which a part couldn't be put: that of the answer, or the lines of the connections that
@@ -48,7 +48,7 @@ Cause (SpokenShape s) was is refusal = refusal ≡ refusals.Memory
 Cause (SpokenLocal p) was is refusal =
     LocalCause p was.files is.files was.devices.random is.devices.random refusal
 Cause (SpokenServe p) was is refusal = ServeCause p was is refusal
-Cause (SpokenSearch p) was is refusal = SearchCause p was is refusal
+Cause (SpokenSearch p) was is refusal = SearchCause p was.devices is.devices refusal
 Cause SpokenWrong was is refusal = refusal ≡ refusals.Words
 
 -- the files that it changes: those of `import` are at most its library, any other command has none
