@@ -145,7 +145,10 @@ pub fn serve<T: Threads + Sync, F: Files, P: Port, O: Sink>(
         (outside_of (F.held files.new) (F.faults files.new) (F.last_failed files.new)
         (devices random dial port_is) (O.put_so_far out.new) (O.faults out.new)) result }
 {
-    let loaded = load(alloc, command.library, files)?;
+    let loaded = match load(alloc, command.library, files) {
+        Ok(loaded) => loaded,
+        Err(refusal) => return Err(refusal),
+    };
     match port.listen(command.port) {
         Ok(()) => {}
         Err(_) => return Err(Refusal::Port),
