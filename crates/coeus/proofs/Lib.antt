@@ -3,6 +3,9 @@ pub mod Ending
 pub mod Importing
 pub mod Keywords
 pub mod Outcomes
+pub mod Remotes
 pub mod Rest
 pub mod Searching
+pub mod Serves
+pub mod Talks
 pub mod Telling

@@ -1,12 +1,14 @@
 -- What the program's own types stand for.
 use Rattle.std.specs.Prelude.{◌≤◌, map, option_map, string_bytes}
-use Rattle.coeus.specs.Words.{Rest, PlainWords, ImportWords, LocalWords, Spoken, SpokenPlain, SpokenImport, SpokenShape, SpokenLocal, SpokenWrong}
+use Rattle.coeus.specs.Words.{Rest, PlainWords, ImportWords, LocalWords, ServeWords, SearchWords, Spoken, SpokenPlain, SpokenImport, SpokenShape, SpokenLocal, SpokenServe, SpokenSearch, SpokenWrong}
 use Rattle.coeus.specs.declared.options.OptionsAndQuery.{OptionsAndQuery}
 use Rattle.coeus.specs.declared.words.PlainCommand.{PlainCommand}
 use Rattle.coeus.specs.declared.words.ImportCommand.{ImportCommand}
 use Rattle.coeus.specs.declared.words.LocalCommand.{LocalCommand}
+use Rattle.coeus.specs.declared.words.ServeCommand.{ServeCommand}
+use Rattle.coeus.specs.declared.words.SearchCommand.{SearchCommand}
 use Rattle.coeus.specs.declared.words.Command.{Command}
-use Rattle.coeus.specs.declared.words.Command.TheVariants.{Plain, Import, Shape, Local, Wrong}
+use Rattle.coeus.specs.declared.words.Command.TheVariants.{Plain, Import, Shape, Local, Serve, Search, Wrong}
 
 abbrev pub rest_shown : OptionsAndQuery → Rest
 rest_shown r =
@@ -32,11 +34,29 @@ local_shown l = record {
   query = map string_bytes l.query.now;
 }
 
+abbrev pub serve_shown : ServeCommand → ServeWords
+serve_shown s = record {
+  library = s.library.now;
+  port = s.port;
+  connections = s.connections;
+  workers = s.workers;
+}
+
+abbrev pub search_shown : SearchCommand → SearchWords
+search_shown s = record {
+  host = s.host.now;
+  port = s.port;
+  pick = s.pick;
+  query = map string_bytes s.query.now;
+}
+
 abbrev pub command_shown : Command → Spoken
 command_shown (Plain p) = SpokenPlain (plain_shown p)
 command_shown (Import i) = SpokenImport (import_shown i)
 command_shown (Shape s) = SpokenShape s
 command_shown (Local l) = SpokenLocal (local_shown l)
+command_shown (Serve s) = SpokenServe (serve_shown s)
+command_shown (Search s) = SpokenSearch (search_shown s)
 command_shown Wrong = SpokenWrong
 
 -- the pick and the workers of a search over a library are 1 to 64
@@ -46,10 +66,23 @@ pub record IsWithinRanges (l : LocalCommand) : Type 0 where
   pub least_workers : 1 ≤ l.workers
   pub most_workers : l.workers ≤ 64
 
+-- a library is served on at least one connection, by 1 to 64 workers
+pub record IsWithinServing (s : ServeCommand) : Type 0 where
+  pub least_connections : 1 ≤ s.connections
+  pub least_workers : 1 ≤ s.workers
+  pub most_workers : s.workers ≤ 64
+
+-- the pick of a search over a dial is 1 to 64
+pub record IsWithinSearching (s : SearchCommand) : Type 0 where
+  pub least : 1 ≤ s.pick
+  pub most : s.pick ≤ 64
+
 -- those of the command, where it is one
 abbrev pub AreWithinRanges : Command → Type 0
 AreWithinRanges (Plain p) = Unit {0}
 AreWithinRanges (Import i) = Unit {0}
 AreWithinRanges (Shape s) = Unit {0}
 AreWithinRanges (Local l) = IsWithinRanges l
+AreWithinRanges (Serve s) = IsWithinServing s
+AreWithinRanges (Search s) = IsWithinSearching s
 AreWithinRanges Wrong = Unit {0}

@@ -7,4 +7,8 @@ pub mod Searches
 pub mod Imports
 pub mod ShapeLines
 pub mod Locals
+pub mod Connections
+pub mod Serving
+pub mod Served
+pub mod Remote
 pub mod Runs

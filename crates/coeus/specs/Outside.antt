@@ -4,6 +4,9 @@ use Rattle.rand_core.specs.Stream.{Stream}
 use Rattle.co_link.specs.Causes.{Rose}
 use Rattle.co_link.specs.Files.{Folder, FileCall}
 use Rattle.co_link.specs.Held.{TookWhole, TookPrefix}
+use Rattle.co_link.specs.Exchanges.{LinkCall, DialCall}
+use Rattle.co_link.specs.Ports.{PortTells}
+use Rattle.co_link.specs.declared.messages.Exchange.{Exchange}
 
 -- what files hold, where they tell it, how often a call of theirs failed, and the last that failed
 pub record FilesState : Type 0 where
@@ -16,10 +19,36 @@ pub record SinkState : Type 0 where
   pub bytes : Option (List ℕ)
   pub faults : ℕ
 
--- the files, the random words that are left, and the output
+-- the exchanges of a dial's link, where it tells them; how often a call of it failed, and the
+-- exchange that failed last; how often it was dialled, and the last dial
+pub record DialState : Type 0 where
+  pub exchanges : Option (List Exchange)
+  pub faults : ℕ
+  pub last_failed : Option LinkCall
+  pub dials : ℕ
+  pub last_dial : Option DialCall
+
+-- what a port tells of its calls, of waiting inputs and of ended outputs, and how often listening or
+-- accepting failed; of its current connection what is left to take and what was put, where it tells
+-- these; and how often taking failed, and putting
+pub record PortState : Type 0 where
+  pub tells : PortTells
+  pub faults : ℕ
+  pub left : Option (List ℕ)
+  pub put : Option (List ℕ)
+  pub take_faults : ℕ
+  pub put_faults : ℕ
+
+-- the random words that are left, the dial and the port
+pub record Devices : Type 0 where
+  pub random : Stream
+  pub dial : DialState
+  pub port : PortState
+
+-- the files, the devices and the output
 pub record Outside : Type 0 where
   pub files : FilesState
-  pub random : Stream
+  pub devices : Devices
   pub out : SinkState
 
 -- ---- the same by their parts
@@ -31,13 +60,35 @@ files_state held faults last_failed =
 abbrev pub sink_state : Option (List ℕ) → ℕ → SinkState
 sink_state bytes faults = record { bytes = bytes; faults = faults }
 
-abbrev pub outside : FilesState → Stream → SinkState → Outside
-outside files random out = record { files = files; random = random; out = out }
+abbrev pub dial_state : Option (List Exchange) → ℕ → Option LinkCall → ℕ → Option DialCall → DialState
+dial_state exchanges faults last_failed dials last_dial = record {
+  exchanges = exchanges;
+  faults = faults;
+  last_failed = last_failed;
+  dials = dials;
+  last_dial = last_dial;
+}
 
-abbrev pub outside_of : Option Folder → ℕ → Option FileCall → Stream → Option (List ℕ) → ℕ
+abbrev pub port_state : PortTells → ℕ → Option (List ℕ) → Option (List ℕ) → ℕ → ℕ → PortState
+port_state tells faults left put take_faults put_faults = record {
+  tells = tells;
+  faults = faults;
+  left = left;
+  put = put;
+  take_faults = take_faults;
+  put_faults = put_faults;
+}
+
+abbrev pub devices : Stream → DialState → PortState → Devices
+devices random dial port = record { random = random; dial = dial; port = port }
+
+abbrev pub outside : FilesState → Devices → SinkState → Outside
+outside files devices out = record { files = files; devices = devices; out = out }
+
+abbrev pub outside_of : Option Folder → ℕ → Option FileCall → Devices → Option (List ℕ) → ℕ
     → Outside
-outside_of held faults last_failed random bytes put_faults =
-    outside (files_state held faults last_failed) random (sink_state bytes put_faults)
+outside_of held faults last_failed devices bytes put_faults =
+    outside (files_state held faults last_failed) devices (sink_state bytes put_faults)
 
 -- ---- what changed
 
@@ -55,7 +106,9 @@ pub record Fails (call : FileCall) (was is : FilesState) : Type 0 where
   pub rose : Rose was.faults is.faults
   pub last : is.last_failed ≡ Some call
 
--- no count of faults rose
+-- no count of faults rose, but for those of a connection
 pub record HasNoFault (was is : Outside) : Type 0 where
   pub files : ¬ Rose was.files.faults is.files.faults
+  pub dial : ¬ Rose was.devices.dial.faults is.devices.dial.faults
+  pub port : ¬ Rose was.devices.port.faults is.devices.port.faults
   pub out : ¬ Rose was.out.faults is.out.faults

@@ -16,7 +16,7 @@ use Rattle.co_link.specs.declared.messages.Target.TheVariants as rounds
 use Rattle.co_client.specs.declared.fault.SearchFault.{SearchFault}
 use Rattle.co_client.specs.declared.fault.SearchFault.TheVariants as searching
 use Rattle.coeus.specs.declared.refusals.Refusal.{Refusal}
-use Rattle.coeus.specs.declared.refusals.Refusal.TheVariants.{Words, Corpus, CorpusTooLong, Publish, LibraryTooLong, Library, Test, Keywords, Search, File, Output, Memory}
+use Rattle.coeus.specs.declared.refusals.Refusal.TheVariants.{Words, Corpus, CorpusTooLong, Publish, LibraryTooLong, Library, Test, Keywords, Search, Dial, Port, File, Output, Memory}
 use Rattle.coeus.specs.Words.{spaced}
 use Rattle.coeus.specs.Outside.{SinkState, Took}
 
@@ -59,6 +59,8 @@ status_of (Library place) = 3
 status_of (Test fault) = 4
 status_of (Keywords found) = 5
 status_of (Search fault) = status_of_search fault
+status_of Dial = 7
+status_of Port = 7
 status_of (File kind) = 9
 status_of Output = 9
 status_of Memory = 10
@@ -173,6 +175,8 @@ text_of words (Library place) = with_number (codes "library: wrong at byte ") pl
 text_of words (Test fault) = test_text fault
 text_of words (Keywords found) = with_number [] found (codes " keywords, at most 16")
 text_of words (Search fault) = search_text fault
+text_of words Dial = codes "link"
+text_of words Port = codes "link"
 text_of words (File kind) = flat (codes "file " ∷ name_of kind words ∷ [])
 text_of words Output = codes "output"
 text_of words Memory = codes "memory"

@@ -8,7 +8,7 @@ use Rattle.std.specs.Str.Parse.{digits_value}
 use Rattle.co_noise.specs.Shapes.{Numbers, numbers, shape_of, is_within}
 use Rattle.co_library.specs.declared.settings.Settings.{Settings}
 use Rattle.coeus.specs.declared.options.Options.{Options}
-use Rattle.coeus.specs.declared.limits.TheConstants.{DEFAULT_DEGREE, DEFAULT_TERMS, DEFAULT_HITS, DEFAULT_SALT, DEFAULT_CHUNKS, DEFAULT_PICK, DEFAULT_WORKERS, MAX_PICK, MAX_WORKERS, SHORT_DIGITS}
+use Rattle.coeus.specs.declared.limits.TheConstants.{DEFAULT_DEGREE, DEFAULT_TERMS, DEFAULT_HITS, DEFAULT_SALT, DEFAULT_CHUNKS, DEFAULT_PICK, DEFAULT_WORKERS, DEFAULT_PORT, DEFAULT_CONNECTIONS, MAX_PICK, MAX_WORKERS, MAX_PORT, MAX_CONNECTIONS, SHORT_DIGITS}
 
 -- one to so many decimal digits
 abbrev pub are_digits : ℕ → List ℕ → Bool
@@ -43,6 +43,8 @@ no_options = record {
   chunks = None;
   pick = None;
   workers = None;
+  port = None;
+  connections = None;
 }
 
 -- the number of an option that is given once
@@ -66,6 +68,10 @@ with_option o name value =
     then option_map (λ n. record o { pick = Some n }) (once o.pick value)
     else if bytes_eq name (codes "--workers")
     then option_map (λ n. record o { workers = Some n }) (once o.workers value)
+    else if bytes_eq name (codes "--port")
+    then option_map (λ n. record o { port = Some n }) (once o.port value)
+    else if bytes_eq name (codes "--connections")
+    then option_map (λ n. record o { connections = Some n }) (once o.connections value)
     else None
 
 -- what stands behind the positional words: options in any order, then `--` and a query, if any
@@ -104,6 +110,20 @@ pub record LocalWords : Type 0 where
   pub workers : ℕ
   pub query : List (List ℕ)
 
+-- what `serve LIBRARY` is to do
+pub record ServeWords : Type 0 where
+  pub library : List ℕ
+  pub port : ℕ
+  pub connections : ℕ
+  pub workers : ℕ
+
+-- what `search HOST PORT` is to do
+pub record SearchWords : Type 0 where
+  pub host : List ℕ
+  pub port : ℕ
+  pub pick : ℕ
+  pub query : List (List ℕ)
+
 -- what words ask for: a command, where a shape is the published numbers that its four words stand
 -- for, or nothing that is in the grammar
 pub data Spoken : Type 0 where
@@ -111,6 +131,8 @@ pub data Spoken : Type 0 where
   SpokenImport : ImportWords → Spoken
   SpokenShape : Numbers → Spoken
   SpokenLocal : LocalWords → Spoken
+  SpokenServe : ServeWords → Spoken
+  SpokenSearch : SearchWords → Spoken
   SpokenWrong : Spoken
 
 -- what is spoken, if it is in the grammar
@@ -118,10 +140,13 @@ abbrev pub or_wrong : {A : Type 0} → (A → Spoken) → Option A → Spoken
 or_wrong speak None = SpokenWrong
 or_wrong speak (Some words) = speak words
 
+-- a number from 1 to `most`
+abbrev pub from_one : ℕ → ℕ → Option ℕ
+from_one most number = if is_within 1 most number then Some number else None
+
 -- a number from 1 to `most`, or the usual one where none is given
 abbrev pub number_within : Option ℕ → ℕ → ℕ → Option ℕ
-number_within given usual most =
-    if is_within 1 most (unwrap_or given usual) then Some (unwrap_or given usual) else None
+number_within given usual most = from_one most (unwrap_or given usual)
 
 -- the pick, 1 to 64, or else 1
 abbrev pub pick_of : Options → Option ℕ
@@ -131,14 +156,47 @@ pick_of o = number_within o.pick DEFAULT_PICK MAX_PICK
 abbrev pub workers_of : Options → Option ℕ
 workers_of o = number_within o.workers DEFAULT_WORKERS MAX_WORKERS
 
+-- the port, 1 to 65535, or else 8080
+abbrev pub port_of : Options → Option ℕ
+port_of o = number_within o.port DEFAULT_PORT MAX_PORT
+
+-- the number of connections, 1 to 1000000, or else 1
+abbrev pub connections_of : Options → Option ℕ
+connections_of o = number_within o.connections DEFAULT_CONNECTIONS MAX_CONNECTIONS
+
+-- a port as a positional word
+abbrev pub port_word : List ℕ → Option ℕ
+port_word word = option_and_then (from_one MAX_PORT) (short_number word)
+
+-- no option of how a corpus is published was given
+abbrev pub none_for_publishing : Options → Bool
+none_for_publishing o =
+    is_none o.degree && is_none o.terms && is_none o.hits && is_none o.salt && is_none o.chunks
+
+-- nor one of how a library is served
+abbrev pub none_for_serving : Options → Bool
+none_for_serving o = is_none o.port && is_none o.connections
+
 -- no option was given but `--terms`, `--hits` and `--pick`
 abbrev pub are_for_plain : Options → Bool
 are_for_plain o = is_none o.degree && is_none o.salt && is_none o.chunks && is_none o.workers
+    && none_for_serving o
+
+-- no option was given but those of how a corpus is published
+abbrev pub are_for_import : Options → Bool
+are_for_import o = is_none o.pick && is_none o.workers && none_for_serving o
 
 -- no option was given but `--pick` and `--workers`
 abbrev pub are_for_local : Options → Bool
-are_for_local o =
-    is_none o.degree && is_none o.terms && is_none o.hits && is_none o.salt && is_none o.chunks
+are_for_local o = none_for_publishing o && none_for_serving o
+
+-- no option was given but `--port`, `--connections` and `--workers`
+abbrev pub are_for_serve : Options → Bool
+are_for_serve o = none_for_publishing o && is_none o.pick
+
+-- no option was given but `--pick`
+abbrev pub are_for_search : Options → Bool
+are_for_search o = none_for_publishing o && none_for_serving o && is_none o.workers
 
 -- `plain` has a query, and options of its own
 abbrev pub plain_of : List ℕ → Rest → Option PlainWords
@@ -177,10 +235,47 @@ local_words (library ∷ rest) =
     if begins_with_dash library then None
     else option_and_then (local_of library) (rest_of no_options rest)
 
--- the settings, where no option of a search and no query was given
+-- `serve` has options of its own, and no query
+abbrev pub serve_of : List ℕ → Rest → Option ServeWords
+serve_of library rest =
+    if are_for_serve rest.options && is_none rest.query
+    then option_and_then (λ port. option_and_then (λ connections. option_map (λ workers. record {
+      library = library;
+      port = port;
+      connections = connections;
+      workers = workers;
+    }) (workers_of rest.options)) (connections_of rest.options)) (port_of rest.options)
+    else None
+
+-- behind `serve`: LIBRARY and options
+abbrev pub serve_words : List (List ℕ) → Option ServeWords
+serve_words [] = None
+serve_words (library ∷ rest) =
+    if begins_with_dash library then None
+    else option_and_then (serve_of library) (rest_of no_options rest)
+
+-- `search` has a query, and options of its own
+abbrev pub search_of : List ℕ → ℕ → Rest → Option SearchWords
+search_of host port rest = option_and_then (λ query.
+    if are_for_search rest.options then option_map (λ pick. record {
+      host = host;
+      port = port;
+      pick = pick;
+      query = query;
+    }) (pick_of rest.options) else None) rest.query
+
+-- behind `search`: HOST, PORT, options, `--` and a query
+abbrev pub search_words : List (List ℕ) → Option SearchWords
+search_words (host ∷ port ∷ rest) =
+    if begins_with_dash host then None
+    else option_and_then (λ number. option_and_then (search_of host number)
+    (rest_of no_options rest)) (port_word port)
+search_words words = None
+
+-- the settings, where no option of another command and no query was given
 abbrev pub settings_of : Rest → Option Settings
 settings_of rest =
-    if is_none rest.options.pick && is_none rest.options.workers && is_none rest.query
+    if are_for_import rest.options && is_none rest.query
     then Some (record {
       degree = unwrap_or rest.options.degree DEFAULT_DEGREE;
       terms = unwrap_or rest.options.terms DEFAULT_TERMS;
@@ -218,6 +313,8 @@ spoken (command ∷ words) =
     else if bytes_eq command (codes "import") then or_wrong SpokenImport (import_words words)
     else if bytes_eq command (codes "shape") then or_wrong SpokenShape (shape_words words)
     else if bytes_eq command (codes "local") then or_wrong SpokenLocal (local_words words)
+    else if bytes_eq command (codes "serve") then or_wrong SpokenServe (serve_words words)
+    else if bytes_eq command (codes "search") then or_wrong SpokenSearch (search_words words)
     else SpokenWrong
 
 -- ---- the query

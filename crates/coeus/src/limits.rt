@@ -15,6 +15,12 @@ pub const MAX_PICK: u32 = 64;
 /// The most workers of a reply.
 pub const MAX_WORKERS: u32 = 64;
 
+/// The greatest number of a port.
+pub const MAX_PORT: u32 = 65_535;
+
+/// The most connections that a library is served on.
+pub const MAX_CONNECTIONS: u32 = 1_000_000;
+
 /// The degree of a library, if no other is asked.
 pub const DEFAULT_DEGREE: u32 = 4_096;
 
@@ -35,3 +41,9 @@ pub const DEFAULT_PICK: u32 = 1;
 
 /// How many workers compute a reply, if no other number is asked.
 pub const DEFAULT_WORKERS: u32 = 4;
+
+/// The port that a library is served at, if no other is asked.
+pub const DEFAULT_PORT: u32 = 8_080;
+
+/// On how many connections a library is served, if no other number is asked.
+pub const DEFAULT_CONNECTIONS: u32 = 1;

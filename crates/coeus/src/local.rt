@@ -2,7 +2,7 @@
 ghost use Rattle.std.specs.Prelude.{◌≡◌, ◌≤◌, IfOk, IfErr};
 ghost use Rattle.coeus.specs.Words.{SpokenLocal};
 ghost use Rattle.coeus.specs.Commands.{local_shown, IsWithinRanges};
-ghost use Rattle.coeus.specs.Outside.{files_state, outside_of};
+ghost use Rattle.coeus.specs.Outside.{DialState, PortState, files_state, devices, outside_of};
 ghost use Rattle.coeus.specs.Locals.{HasLibraryFile, CanBeServed, OpenCause, IsSearched};
 ghost use Rattle.coeus.specs.Locals.{HasFound, FindCause, LocalAnswer, LocalCause};
 ghost use Rattle.coeus.specs.Runs.{Ended};
@@ -43,7 +43,7 @@ fn read_library<F: Files>(alloc: Global, name: &str, files: &mut F) -> Result<Li
 }
 
 /// The library of a file, made ready for replies, where it passes the test.
-fn load<F: Files>(alloc: Global, name: &str, files: &mut F) -> Result<Loaded, Refusal>
+pub fn load<F: Files>(alloc: Global, name: &str, files: &mut F) -> Result<Loaded, Refusal>
     ensures ok { IfOk result (CanBeServed (F.held files.old) name.now) }
     ensures cause { let was = files_state
         (F.held files.old) (F.faults files.old) (F.last_failed files.old) in
@@ -132,7 +132,8 @@ fn find<T: Runs, F: Files, R: Rng>(
     answer(rt, alloc, &loaded, command, rng)
 }
 
-/// Searches a library, and puts the answer on the output.
+/// Searches a library, and puts the answer on the output. It has nothing to do with a dial or a
+/// port.
 pub fn local<T: Runs, F: Files, R: Rng, O: Sink>(
     rt: &T,
     alloc: Global,
@@ -143,11 +144,12 @@ pub fn local<T: Runs, F: Files, R: Rng, O: Sink>(
 ) -> Result<(), Refusal>
     requires shared { T.is_shared }
     requires ranges { IsWithinRanges command.now }
-    ensures { Ended (SpokenLocal (local_shown command.now))
+    ensures { (dial : DialState) (port : PortState) →
+        Ended (SpokenLocal (local_shown command.now))
         (outside_of (F.held files.old) (F.faults files.old) (F.last_failed files.old)
-        (R.stream rng.old) (O.put_so_far out.old) (O.faults out.old))
+        (devices (R.stream rng.old) dial port) (O.put_so_far out.old) (O.faults out.old))
         (outside_of (F.held files.new) (F.faults files.new) (F.last_failed files.new)
-        (R.stream rng.new) (O.put_so_far out.new) (O.faults out.new)) result }
+        (devices (R.stream rng.new) dial port) (O.put_so_far out.new) (O.faults out.new)) result }
 {
     let text = find(rt, alloc, command, files, rng)?;
     match out.put(text.as_slice()) {

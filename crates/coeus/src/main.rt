@@ -1,11 +1,12 @@
 //! Coeus: keyword search over a library's documents.
 //!
-//! `run` does all that the program does, over files, random words and sinks that are handed in; its
-//! contract says what each status means. `main` makes the real devices and calls it.
+//! `run` does all that the program does, over files, a dial, a port, random words and sinks that are
+//! handed in; its contract says what each status means. `main` makes the real devices and calls it.
 //!
 //! Not here: what a corpus is (co_corpus), what is found (co_tfidf), how it is printed (co_text),
-//! how a corpus is published (co_library), what a shape's bounds are (co_noise), how a library is
-//! served (co_server) and how it is asked (co_client).
+//! how a corpus is published (co_library), what a shape's bounds are (co_noise), what a session
+//! answers (co_server), what is said on a connection (co_connections), and how a library is asked
+//! (co_client).
 #![tactic(auto)]
 
 mod limits;
@@ -15,12 +16,15 @@ mod plain;
 mod program;
 mod publish;
 mod refusals;
+mod remote;
 mod search_faults;
+mod serving;
 mod shape;
 mod words;
 
 use crate::refusals::{Refusal, tell};
-use co_link::{Sink, StdFiles, StdSink};
+use co_http::TcpDial;
+use co_link::{Sink, StdFiles, StdSink, TcpPort};
 pub use program::run;
 use rand_chacha::ChaCha20Rng;
 use rand_core::SeedableRng;
@@ -68,7 +72,11 @@ fn main(rt: HostRuntime) -> ExitCode {
         return ExitCode::from(9);
     };
     let mut files = StdFiles::new(&rt, alloc);
+    let mut dial = TcpDial::new(&rt, alloc);
+    let mut port = TcpPort::new(&rt);
     let mut out = StdSink::new(rt.stdout());
-    let status = run(&rt, alloc, &words, &mut files, &mut rng, &mut out, &mut err);
+    let status = run(
+        &rt, alloc, &words, &mut files, &mut dial, &mut port, &mut rng, &mut out, &mut err,
+    );
     ExitCode::from(status)
 }

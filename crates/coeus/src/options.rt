@@ -5,11 +5,17 @@ ghost use Rattle.std.specs.List.{list_all};
 ghost use Rattle.std.specs.Str.Parse.{digits_value};
 ghost use Rattle.coeus.specs.Words.{are_digits, digits_number, short_number, once, with_option};
 ghost use Rattle.coeus.specs.Words.{no_options, rest_of, number_within, pick_of, workers_of};
-ghost use Rattle.coeus.specs.Words.{are_for_plain, are_for_local};
+ghost use Rattle.coeus.specs.Words.{port_of, connections_of, from_one, port_word};
+ghost use Rattle.coeus.specs.Words.{none_for_publishing, none_for_serving};
+ghost use Rattle.coeus.specs.Words.{are_for_plain, are_for_import, are_for_local};
+ghost use Rattle.coeus.specs.Words.{are_for_serve, are_for_search};
 ghost use Rattle.coeus.specs.Commands.{rest_shown};
 ghost use Rattle.coeus.specs.Next.{next_shown, words_left};
 
-use crate::limits::{DEFAULT_PICK, DEFAULT_WORKERS, MAX_PICK, MAX_WORKERS, SHORT_DIGITS};
+use crate::limits::{
+    DEFAULT_CONNECTIONS, DEFAULT_PICK, DEFAULT_PORT, DEFAULT_WORKERS, MAX_CONNECTIONS, MAX_PICK,
+    MAX_PORT, MAX_WORKERS, SHORT_DIGITS,
+};
 
 /// The options that were given, each with its number.
 #[derive(Clone, Copy)]
@@ -28,6 +34,10 @@ pub struct Options {
     pub pick: Option<u32>,
     /// How many workers compute a reply.
     pub workers: Option<u32>,
+    /// The port that a library is served at.
+    pub port: Option<u32>,
+    /// On how many connections a library is served.
+    pub connections: Option<u32>,
 }
 
 /// Options, and the query words behind `--`, where there is that word.
@@ -96,16 +106,31 @@ fn once(before: Option<u32>, value: &str) -> Option<u32>
     read_short(value)
 }
 
+// A number from 1 to `most`.
+fn from_one(most: u32, number: u32) -> Option<u32>
+    ensures value { result ≡ from_one most number }
+    ensures within { IfSome result (λ number. (1 ≤ number) × (number ≤ most)) }
+{
+    if number < 1 || number > most {
+        return None;
+    }
+    Some(number)
+}
+
 // A number of an option from 1 to `most`, or what stands for it where it isn't given.
 fn within(given: Option<u32>, usual: u32, most: u32) -> Option<u32>
     ensures value { result ≡ number_within given usual most }
     ensures within { IfSome result (λ number. (1 ≤ number) × (number ≤ most)) }
 {
-    let number = given.unwrap_or(usual);
-    if number < 1 || number > most {
-        return None;
-    }
-    Some(number)
+    from_one(most, given.unwrap_or(usual))
+}
+
+/// A port as a positional word.
+pub fn read_port(word: &str) -> Option<u16>
+    ensures { result ≡ port_word word.now }
+{
+    let port = from_one(MAX_PORT, read_short(word)?)?;
+    u16::try_from(port).ok()
 }
 
 impl Options {
@@ -120,6 +145,8 @@ impl Options {
             chunks: None,
             pick: None,
             workers: None,
+            port: None,
+            connections: None,
         }
     }
 
@@ -156,7 +183,36 @@ impl Options {
             let workers = Some(once(self.workers, value)?);
             return Some(Options { workers, ..self });
         }
+        if name == "--port" {
+            let port = Some(once(self.port, value)?);
+            return Some(Options { port, ..self });
+        }
+        if name == "--connections" {
+            let connections = Some(once(self.connections, value)?);
+            return Some(Options {
+                connections,
+                ..self
+            });
+        }
         None
+    }
+
+    // Whether no option of how a corpus is published was given.
+    fn none_for_publishing(self) -> bool
+        ensures { result ≡ none_for_publishing self }
+    {
+        self.degree.is_none()
+            && self.terms.is_none()
+            && self.hits.is_none()
+            && self.salt.is_none()
+            && self.chunks.is_none()
+    }
+
+    // Whether no option of how a library is served was given.
+    fn none_for_serving(self) -> bool
+        ensures { result ≡ none_for_serving self }
+    {
+        self.port.is_none() && self.connections.is_none()
     }
 
     /// Whether no option was given but those of a plain search.
@@ -167,17 +223,35 @@ impl Options {
             && self.salt.is_none()
             && self.chunks.is_none()
             && self.workers.is_none()
+            && self.none_for_serving()
+    }
+
+    /// Whether no option was given but those of how a corpus is published.
+    pub fn are_for_import(self) -> bool
+        ensures { result ≡ are_for_import self }
+    {
+        self.pick.is_none() && self.workers.is_none() && self.none_for_serving()
     }
 
     /// Whether no option was given but those of a search over a library.
     pub fn are_for_local(self) -> bool
         ensures { result ≡ are_for_local self }
     {
-        self.degree.is_none()
-            && self.terms.is_none()
-            && self.hits.is_none()
-            && self.salt.is_none()
-            && self.chunks.is_none()
+        self.none_for_publishing() && self.none_for_serving()
+    }
+
+    /// Whether no option was given but those of how a library is served.
+    pub fn are_for_serve(self) -> bool
+        ensures { result ≡ are_for_serve self }
+    {
+        self.none_for_publishing() && self.pick.is_none()
+    }
+
+    /// Whether no option was given but that of a search over a dial.
+    pub fn are_for_search(self) -> bool
+        ensures { result ≡ are_for_search self }
+    {
+        self.none_for_publishing() && self.none_for_serving() && self.workers.is_none()
     }
 
     /// The pick, 1 to 64, or else 1.
@@ -194,6 +268,21 @@ impl Options {
         ensures within { IfSome result (λ workers. (1 ≤ workers) × (workers ≤ 64)) }
     {
         within(self.workers, DEFAULT_WORKERS, MAX_WORKERS)
+    }
+
+    /// The port, 1 to 65535, or else 8080.
+    pub fn port(self) -> Option<u16>
+        ensures { result ≡ port_of self }
+    {
+        u16::try_from(within(self.port, DEFAULT_PORT, MAX_PORT)?).ok()
+    }
+
+    /// The number of connections, 1 to 1000000, or else 1.
+    pub fn connections(self) -> Option<u32>
+        ensures value { result ≡ connections_of self }
+        ensures within { IfSome result (λ number. (1 ≤ number) × (number ≤ 1000000)) }
+    {
+        within(self.connections, DEFAULT_CONNECTIONS, MAX_CONNECTIONS)
     }
 }
 

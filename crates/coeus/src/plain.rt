@@ -1,13 +1,12 @@
 //! The command `plain`: plain search over the documents of a corpus file.
 ghost use Rattle.std.specs.Prelude.{◌≡◌, ◌≤◌, length, IfOk, IfErr, OnOk, ℕ};
-ghost use Rattle.rand_core.specs.Stream.{Stream};
 ghost use Rattle.co_text.specs.Terms.{distinct};
 ghost use Rattle.co_text.specs.Printed.{printed};
 ghost use Rattle.co_text.specs.declared.limits.TheConstants.{MAX_KEYWORDS};
 ghost use Rattle.co_tfidf.specs.Found.{found, IsIndex};
 ghost use Rattle.coeus.specs.Words.{SpokenPlain};
 ghost use Rattle.coeus.specs.Commands.{plain_shown};
-ghost use Rattle.coeus.specs.Outside.{files_state, outside_of};
+ghost use Rattle.coeus.specs.Outside.{Devices, files_state, outside_of};
 ghost use Rattle.coeus.specs.Searches.{HasCorpus, ReadCause, HasText, TextCause, plain_settings};
 ghost use Rattle.coeus.specs.Runs.{Ended};
 
@@ -123,11 +122,11 @@ pub fn plain<F: Files, O: Sink>(
     files: &mut F,
     out: &mut O,
 ) -> Result<(), Refusal>
-    ensures { (random : Stream) → Ended (SpokenPlain (plain_shown command.now))
+    ensures { (devices : Devices) → Ended (SpokenPlain (plain_shown command.now))
         (outside_of (F.held files.old) (F.faults files.old) (F.last_failed files.old)
-        random (O.put_so_far out.old) (O.faults out.old))
+        devices (O.put_so_far out.old) (O.faults out.old))
         (outside_of (F.held files.new) (F.faults files.new) (F.last_failed files.new)
-        random (O.put_so_far out.new) (O.faults out.new)) result }
+        devices (O.put_so_far out.new) (O.faults out.new)) result }
 {
     let corpus = read_documents(alloc, command.corpus, files)?;
     let text = answer(alloc, &corpus, command)?;

@@ -1,9 +1,8 @@
 //! The command `import`: publishes a corpus as a library file.
 ghost use Rattle.std.specs.Prelude.{◌≡◌, IfOk, string_bytes};
-ghost use Rattle.rand_core.specs.Stream.{Stream};
 ghost use Rattle.coeus.specs.Words.{SpokenImport};
 ghost use Rattle.coeus.specs.Commands.{import_shown};
-ghost use Rattle.coeus.specs.Outside.{outside_of};
+ghost use Rattle.coeus.specs.Outside.{Devices, outside_of};
 ghost use Rattle.coeus.specs.Imports.{import_text};
 ghost use Rattle.coeus.specs.Runs.{Ended};
 
@@ -37,11 +36,11 @@ pub fn import<F: Files, O: Sink>(
     files: &mut F,
     out: &mut O,
 ) -> Result<(), Refusal>
-    ensures { (random : Stream) → Ended (SpokenImport (import_shown command.now))
+    ensures { (devices : Devices) → Ended (SpokenImport (import_shown command.now))
         (outside_of (F.held files.old) (F.faults files.old) (F.last_failed files.old)
-        random (O.put_so_far out.old) (O.faults out.old))
+        devices (O.put_so_far out.old) (O.faults out.old))
         (outside_of (F.held files.new) (F.faults files.new) (F.last_failed files.new)
-        random (O.put_so_far out.new) (O.faults out.new)) result }
+        devices (O.put_so_far out.new) (O.faults out.new)) result }
 {
     let corpus = read_documents(alloc, command.corpus, files)?;
     let _ = corpus.as_slice();

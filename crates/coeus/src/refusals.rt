@@ -37,6 +37,10 @@ pub enum Refusal {
     Keywords(u32),
     /// The search over a link gives no answer.
     Search(SearchFault),
+    /// The server couldn't be dialled.
+    Dial,
+    /// The port couldn't be listened on, or a connection couldn't be accepted.
+    Port,
     /// The command's own file couldn't be read or written.
     File(FileKind),
     /// The output failed.
@@ -78,6 +82,8 @@ impl Refusal {
             Refusal::Test(_) => 4,
             Refusal::Keywords(_) => 5,
             Refusal::Search(fault) => status_of_search(fault),
+            Refusal::Dial => 7,
+            Refusal::Port => 7,
             Refusal::File(_) => 9,
             Refusal::Output => 9,
             Refusal::Memory => 10,
@@ -231,6 +237,8 @@ pub fn tell<E: Sink>(words: &[String], refusal: Refusal, err: &mut E) -> u8
         Refusal::Test(fault) => say_test(fault, err),
         Refusal::Keywords(found) => say_number("", found as u128, " keywords, at most 16", err),
         Refusal::Search(fault) => say_search(&fault, err),
+        Refusal::Dial => say(&["link"], err),
+        Refusal::Port => say(&["link"], err),
         Refusal::File(kind) => say(&["file ", name_of(kind, words)], err),
         Refusal::Output => say(&["output"], err),
         Refusal::Memory => say(&["memory"], err),

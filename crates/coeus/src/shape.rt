@@ -1,9 +1,8 @@
 //! The command `shape`: the noise bounds of published numbers, and the test.
 ghost use Rattle.std.specs.Prelude.{◌≡◌, ◌++◌, [], ◌∷◌, IfOk, OnOk, codes};
-ghost use Rattle.rand_core.specs.Stream.{Stream};
 ghost use Rattle.co_noise.specs.Bounds.{test_of};
 ghost use Rattle.coeus.specs.Words.{SpokenShape};
-ghost use Rattle.coeus.specs.Outside.{FilesState, sink_state, outside};
+ghost use Rattle.coeus.specs.Outside.{FilesState, Devices, sink_state, outside};
 ghost use Rattle.coeus.specs.ShapeLines.{number_line, test_word, shape_text};
 ghost use Rattle.coeus.specs.Runs.{Ended};
 
@@ -70,11 +69,11 @@ pub fn shape_text(alloc: Global, shape: &Shape) -> Result<Bytes, AllocError>
     Ok(out)
 }
 
-/// Puts the lines of a shape. It has nothing to do with files.
+/// Puts the lines of a shape. It has nothing to do with files or devices.
 pub fn show<O: Sink>(alloc: Global, shape: &Shape, out: &mut O) -> Result<(), Refusal>
-    ensures { (files : FilesState) (random : Stream) →
-        let was = outside files random (sink_state (O.put_so_far out.old) (O.faults out.old)) in
-        let is = outside files random (sink_state (O.put_so_far out.new) (O.faults out.new)) in
+    ensures { (files : FilesState) (devices : Devices) →
+        let was = outside files devices (sink_state (O.put_so_far out.old) (O.faults out.old)) in
+        let is = outside files devices (sink_state (O.put_so_far out.new) (O.faults out.new)) in
         Ended (SpokenShape shape.now) was is result }
 {
     let Ok(text) = shape_text(alloc, shape) else {

@@ -1,13 +1,15 @@
 //! The words of the command line: a command, its positional words, options in any order, a query.
 ghost use Rattle.std.specs.Prelude.{◌≡◌, ◌++◌, IfOk, IfSome, string_bytes, map, option_map};
 ghost use Rattle.coeus.specs.Words.{plain_words, import_words, settings_of, shape_words};
-ghost use Rattle.coeus.specs.Words.{local_words};
+ghost use Rattle.coeus.specs.Words.{local_words, serve_words, search_words};
 ghost use Rattle.coeus.specs.Words.{spoken, joined};
 ghost use Rattle.coeus.specs.Commands.{command_shown, plain_shown, import_shown, local_shown};
-ghost use Rattle.coeus.specs.Commands.{rest_shown, IsWithinRanges, AreWithinRanges};
+ghost use Rattle.coeus.specs.Commands.{serve_shown, search_shown, rest_shown};
+ghost use Rattle.coeus.specs.Commands.{IsWithinRanges, IsWithinServing, IsWithinSearching};
+ghost use Rattle.coeus.specs.Commands.{AreWithinRanges};
 
 use crate::limits::{DEFAULT_CHUNKS, DEFAULT_DEGREE, DEFAULT_HITS, DEFAULT_SALT, DEFAULT_TERMS};
-use crate::options::{OptionsAndQuery, read_options, read_short};
+use crate::options::{OptionsAndQuery, read_options, read_port, read_short};
 use co_library::Settings;
 use co_noise::Shape;
 use std::alloc::{AllocError, Global};
@@ -51,6 +53,32 @@ pub struct LocalCommand<'a> {
     pub query: &'a [String],
 }
 
+/// What `serve LIBRARY` is to do.
+#[derive(Clone, Copy)]
+pub struct ServeCommand<'a> {
+    /// The name of the library file.
+    pub library: &'a str,
+    /// The port that it is served at.
+    pub port: u16,
+    /// On how many connections, one after another.
+    pub connections: u32,
+    /// How many workers compute a reply.
+    pub workers: u32,
+}
+
+/// What `search HOST PORT` is to do.
+#[derive(Clone, Copy)]
+pub struct SearchCommand<'a> {
+    /// The name of the server.
+    pub host: &'a str,
+    /// Its port.
+    pub port: u16,
+    /// The rank of the hit whose document is printed, from 1.
+    pub pick: u32,
+    /// The words of the query.
+    pub query: &'a [String],
+}
+
 /// What the words of the command line ask for.
 #[derive(Clone, Copy)]
 pub enum Command<'a> {
@@ -58,6 +86,8 @@ pub enum Command<'a> {
     Import(ImportCommand<'a>),
     Shape(Shape),
     Local(LocalCommand<'a>),
+    Serve(ServeCommand<'a>),
+    Search(SearchCommand<'a>),
     /// Nothing that is in the grammar.
     Wrong,
 }
@@ -90,6 +120,16 @@ pub fn read_command(words: &[String]) -> Command<'_>
     } else if command == "local" {
         match read_local(words) {
             Some(command) => Command::Local(command),
+            None => Command::Wrong,
+        }
+    } else if command == "serve" {
+        match read_serve(words) {
+            Some(command) => Command::Serve(command),
+            None => Command::Wrong,
+        }
+    } else if command == "search" {
+        match read_search(words) {
+            Some(command) => Command::Search(command),
             None => Command::Wrong,
         }
     } else {
@@ -148,11 +188,63 @@ fn read_local(words: &[String]) -> Option<LocalCommand<'_>>
     })
 }
 
-// The settings among options, where no option of a search and no query was given.
+// Reads LIBRARY and options.
+fn read_serve(words: &[String]) -> Option<ServeCommand<'_>>
+    ensures value { option_map serve_shown result ≡ serve_words (map string_bytes words.now) }
+    ensures ranges { IfSome result IsWithinServing }
+{
+    let [library, rest @ ..] = words else {
+        return None;
+    };
+    if library.as_str().starts_with('-') {
+        return None;
+    }
+    let rest = read_options(rest)?;
+    if !rest.options.are_for_serve() || rest.query.is_some() {
+        return None;
+    }
+    let port = rest.options.port()?;
+    let connections = rest.options.connections()?;
+    let workers = rest.options.workers()?;
+    Some(ServeCommand {
+        library: library.as_str(),
+        port,
+        connections,
+        workers,
+    })
+}
+
+// Reads HOST, PORT, options, `--` and a query.
+fn read_search(words: &[String]) -> Option<SearchCommand<'_>>
+    ensures value { option_map search_shown result ≡ search_words (map string_bytes words.now) }
+    ensures ranges { IfSome result IsWithinSearching }
+{
+    let [host, port, rest @ ..] = words else {
+        return None;
+    };
+    if host.as_str().starts_with('-') {
+        return None;
+    }
+    let port = read_port(port.as_str())?;
+    let rest = read_options(rest)?;
+    let query = rest.query?;
+    if !rest.options.are_for_search() {
+        return None;
+    }
+    let pick = rest.options.pick()?;
+    Some(SearchCommand {
+        host: host.as_str(),
+        port,
+        pick,
+        query,
+    })
+}
+
+// The settings among options, where no option of another command and no query was given.
 fn settings_of(rest: OptionsAndQuery<'_>) -> Option<Settings>
     ensures { result ≡ settings_of (rest_shown rest.entry) }
 {
-    if rest.options.pick.is_some() || rest.options.workers.is_some() || rest.query.is_some() {
+    if !rest.options.are_for_import() || rest.query.is_some() {
         return None;
     }
     Some(Settings {
