@@ -22,6 +22,7 @@ mod pir;
 mod ring;
 mod rns;
 mod rot;
+mod search;
 mod session;
 mod slots;
 mod streams;
@@ -37,9 +38,9 @@ use std::fs;
 use std::thread::Threads;
 
 /// The layers, lowest first.
-const LAYERS: [&str; 16] = [
+const LAYERS: [&str; 17] = [
     "ring", "rns", "slots", "noise", "bfv", "switch", "rot", "matvec", "pir", "bucket", "text",
-    "tfidf", "pack", "library", "wire", "session",
+    "tfidf", "pack", "library", "wire", "session", "search",
 ];
 
 fn line_of<R: Threads + Sync>(rt: &R, layer: &str, case: Case) -> Result<String, BadCase> {
@@ -59,6 +60,7 @@ fn line_of<R: Threads + Sync>(rt: &R, layer: &str, case: Case) -> Result<String,
         "library" => library::line(case),
         "wire" => wire::line(case),
         "session" => session::line(rt, case),
+        "search" => search::line(rt, case),
         _ => Err(BadCase::Unfit),
     }
 }

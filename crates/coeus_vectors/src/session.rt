@@ -31,7 +31,7 @@ fn put_library_lengths(line: &mut String, case: Case) -> Result<(), BadCase> {
 }
 
 /// The library of a case, made ready for replies.
-fn loaded(case: Case) -> Result<Loaded, BadCase> {
+pub fn loaded(case: Case) -> Result<Loaded, BadCase> {
     let library = library(case)?;
     let tested = passed(library.shape())?;
     Ok(Loaded::new(case.alloc, library, tested)?)
