@@ -9,6 +9,7 @@
 //! (co_client).
 #![tactic(auto)]
 
+mod generator;
 mod limits;
 mod local;
 mod options;
@@ -16,6 +17,7 @@ mod plain;
 mod program;
 mod publish;
 mod refusals;
+mod rehearse;
 mod remote;
 mod search_faults;
 mod serving;

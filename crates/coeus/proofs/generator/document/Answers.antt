@@ -1,0 +1,10 @@
+use Rattle.std.proofs.Common.{◌≡◌, true, false, None, sym, subst, ap, ◌∙◌}
+use Rattle.std.specs.Prelude.{is_some}
+use mathlib.Core.Bool.{true≢false}
+use Rattle.co_text.specs.Titles.{IsTitle}
+use Rattle.coeus.proofs.Generated.{title_is}
+use Rattle.coeus.proofs.generator.document.Goals as goal
+
+pub unreachable-requires : goal.unreachable-requires
+unreachable-requires c =
+    true≢false (sym (c.in_default.ensures.exact.1 (subst IsTitle (sym c.in_ok-format.ensures.ok) (title_is c.args.number c.requires))))
