@@ -86,19 +86,26 @@ class Server:
         return self.process.returncode, out, err
 
 
-def rest_of(line):
-    pieces = []
-    while piece := line.recv(65536):
-        pieces.append(piece)
-    return b"".join(pieces)
+def read(line, count):
+    """So many bytes, or fewer where the connection ends, and what comes at once behind them."""
+    taken = b""
+    while len(taken) < count and (piece := line.recv(count - len(taken))):
+        taken += piece
+    line.settimeout(0.05)
+    with contextlib.suppress(TimeoutError):
+        taken += line.recv(65536)
+    line.settimeout(SECONDS)
+    return taken
 
 
-def talk(server, said):
-    """All that the server answers to these bytes, behind which the client sends nothing more."""
+def talk(server, said, wanted):
+    """What is wrong with the server's answer to these bytes, behind which the client sends nothing more.
+
+    The server ends a connection when the next one comes, or with itself, so the client doesn't wait for that."""
     with server.connect() as line:
         line.sendall(said)
         line.shutdown(socket.SHUT_WR)
-        return rest_of(line)
+        return differs(repr(said[:40]), wanted, read(line, len(wanted)))
 
 
 def differs(what, wanted, found):
@@ -128,7 +135,7 @@ def searches_as(program, folder, port, words, status, out, err=b""):
 
 def published_numbers(program, folder):
     with Server(program, folder) as server:
-        faults = differs("reply", response(200, PUBLIC), talk(server, get("/public")))
+        faults = talk(server, get("/public"), response(200, PUBLIC))
         return faults + ended_as(server, 0, b"connection 1 requests 1 closed\n")
 
 
@@ -138,8 +145,7 @@ def one_byte_at_a_time(program, folder):
             for byte in get("/public"):
                 line.sendall(bytes([byte]))
                 time.sleep(0.002)
-            line.shutdown(socket.SHUT_WR)
-            faults = differs("reply", response(200, PUBLIC), rest_of(line))
+            faults = differs("reply", response(200, PUBLIC), read(line, len(response(200, PUBLIC))))
         return faults + ended_as(server, 0, b"connection 1 requests 1 closed\n")
 
 
@@ -155,22 +161,22 @@ def refusals(program, folder):
         (post("/score", b"", "+5"), response(400, closes=True), "refused 400"),
         (b"\x00\x01\x02\r\n\r\n", response(400, closes=True), "refused 400"),
         (f"GET /public HTTP/1.1\r\n{fields}\r\n".encode(), response(431, closes=True), "refused 431"),
-        (b"GET /public HTTP/1.1\r\nA: " + b"a" * 16384, response(431, closes=True), "refused 431"),
+        (b"GET /public HTTP/1.1\r\nA: ".ljust(16384, b"a"), response(431, closes=True), "refused 431"),
     ]
     lines = [f"connection {number + 1} requests 1 {end}\n" for number, (_, _, end) in enumerate(said)]
     with Server(program, folder, connections=len(said)) as server:
         faults = []
         for bytes_said, wanted, _ in said:
-            faults += differs(repr(bytes_said[:40]), wanted, talk(server, bytes_said))
+            faults += talk(server, bytes_said, wanted)
         return faults + ended_as(server, 0, "".join(lines).encode())
 
 
 def clients_that_leave(program, folder):
     with Server(program, folder, connections=4) as server:
-        faults = differs("nothing said", b"", talk(server, b""))
-        faults += differs("half a head", b"", talk(server, b"GET /public HTTP/1.1\r\n"))
-        faults += differs("half a body", b"", talk(server, post("/score", b"abc", 14336)))
-        faults += differs("one and a half", response(200, PUBLIC), talk(server, get("/public") + b"GET"))
+        faults = talk(server, b"", b"")
+        faults += talk(server, b"GET /public HTTP/1.1\r\n", b"")
+        faults += talk(server, post("/score", b"abc", 14336), b"")
+        faults += talk(server, get("/public") + b"GET", response(200, PUBLIC))
         lines = ["requests 0 closed", "requests 0 cut", "requests 0 cut", "requests 1 cut"]
         lines = "".join(f"connection {number + 1} {line}\n" for number, line in enumerate(lines))
         return faults + ended_as(server, 0, lines.encode())
@@ -182,38 +188,38 @@ def broken_connection(program, folder):
             line.sendall(b"GET")
             # closed at once, the system resets the connection: the server's next take fails
             line.setsockopt(socket.SOL_SOCKET, socket.SO_LINGER, struct.pack("ii", 1, 0))
-        faults = differs("reply", response(200, PUBLIC), talk(server, get("/public")))
+        faults = talk(server, get("/public"), response(200, PUBLIC))
         lines = b"connection 1 requests 0 read fault\nconnection 2 requests 1 closed\n"
         return faults + ended_as(server, 0, lines)
 
 
 def keys_of_a_session(program, folder):
-    keys, score = bytes(53760), bytes(1792)
+    keys, score = bytes(64512), bytes(1792)
     bad = bytes.fromhex("01000000006004") + score[7:]
     said = [post("/score", score), post("/keys", keys), post("/score", score), post("/score", bad), post("/score", score)]
     with Server(program, folder, degree=64) as server:
         reply = response(200, bytes(1792))
         wanted = response(409) + response(200) + reply + response(400, b"range 0\n") + reply
-        faults = differs("replies", wanted, talk(server, b"".join(said)))
+        faults = talk(server, b"".join(said), wanted)
         return faults + ended_as(server, 0, b"connection 1 requests 5 closed\n")
 
 
 def keys_go_with_the_connection(program, folder):
     with Server(program, folder, connections=2, degree=64) as server:
-        faults = differs("keys", response(200), talk(server, post("/keys", bytes(53760))))
-        faults += differs("score", response(409), talk(server, post("/score", bytes(1792))))
+        faults = talk(server, post("/keys", bytes(64512)), response(200))
+        faults += talk(server, post("/score", bytes(1792)), response(409))
         return faults + ended_as(server, 0, b"connection 1 requests 1 closed\nconnection 2 requests 1 closed\n")
 
 
 def many_requests(program, folder):
     with Server(program, folder) as server:
+        wanted = response(200, PUBLIC) * 999 + response(200, PUBLIC, True)
         with server.connect() as line:
             sender = threading.Thread(target=lambda: line.sendall(get("/public") * 1000))
             sender.start()
-            found = rest_of(line)
+            faults = differs("replies", wanted, read(line, len(wanted)))
             sender.join()
-        wanted = response(200, PUBLIC) * 999 + response(200, PUBLIC, True)
-        return differs("replies", wanted, found) + ended_as(server, 0, b"connection 1 requests 1000 spent\n")
+        return faults + ended_as(server, 0, b"connection 1 requests 1000 spent\n")
 
 
 def with_curl(program, folder):
@@ -299,7 +305,7 @@ def answering(reply):
 def false_servers(program, folder):
     rows = PUBLIC[:28] + (2).to_bytes(4, "big") + PUBLIC[32:]
     crowded = bytes.fromhex("434f455553504231") + b"".join(
-        number.to_bytes(4, "big") for number in (16, 4, 0, 16, 0, 1, 17, 1)
+        number.to_bytes(4, "big") for number in (16, 4, 0, 16, 0, 2, 17, 1)
     )
     said = [
         (response(500, b"x"), 8, "refused public 500"),
@@ -330,13 +336,13 @@ def port_taken(program, folder):
         ran = subprocess.run(words, cwd=folder, capture_output=True, timeout=SECONDS, check=False)
         found = ran.returncode, ran.stdout, ran.stderr
         faults = [] if found == (7, b"", b"coeus: link\n") else [f"a port that is taken: {found}"]
-        talk(server, b"")
+        faults += talk(server, b"", b"")
         return faults + ended_as(server, 0, b"connection 1 requests 0 closed\n")
 
 
 def full_output(program, folder):
     with open("/dev/full", "wb") as full, Server(program, folder, connections=2, out=full) as server:
-        faults = differs("reply", response(200, PUBLIC), talk(server, get("/public")))
+        faults = talk(server, get("/public"), response(200, PUBLIC))
         status, _, err = server.ended()
         return faults + ([] if (status, err) == (9, b"coeus: output\n") else [f"full output: {status} {err!r}"])
 

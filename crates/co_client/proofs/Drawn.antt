@@ -1,6 +1,5 @@
 -- Encryptions that are drawn one after another, and the body that spells them.
-use Rattle.std.proofs.Common.{◌≡◌, ℕ, zero, suc, ◌+◌, ◌*◌, ◌/◌, ◌%◌, ◌<◌, ◌≤◌, refl, sym, ap, subst, ◌∙◌, arith, ℤ, List, [], ◌∷◌, ◌++◌, length, get_or, take, map}
-use Rattle.std.specs.List.{flat_map}
+use Rattle.std.proofs.Common.{◌≡◌, ℕ, ◌+◌, ◌<◌, ◌≤◌, refl, sym, ap, subst, ◌∙◌, ℤ, List, [], ◌∷◌, ◌++◌, length, get_or, take, map}
 use Rattle.std.proofs.lemmas.List.{take_more, take_all, flat_map_more, map_push}
 use Rattle.rand_core.specs.Stream.{Stream}
 use Rattle.co_math.specs.Coefficients.{IsDegree}

@@ -1,16 +1,14 @@
 -- Where a search ends, and what it tells there.
-use Rattle.std.proofs.Common.{◌≡◌, ◌≢◌, ℕ, zero, suc, ◌+◌, ◌*◌, ◌<◌, ◌≤◌, ◌⊎◌, inl, inr, min, Bool, true, false, refl, sym, ap, subst, ◌∙◌, ⊎_elim, arith, ℤ, List, [], ◌∷◌, ◌++◌, length, get_or, map, take, Option, Some, None, Result, Ok, Err}
-use Rattle.std.specs.Prelude.{All, IfOk, IfErr, slice_get}
-use Rattle.std.specs.List.{range_with_len}
+use Rattle.std.proofs.Common.{◌≡◌, ◌≢◌, ℕ, zero, suc, ◌<◌, ◌≤◌, inl, inr, refl, sym, ap, subst, ◌∙◌, ⊎_elim, arith, List, [], ◌∷◌, length, get_or, take, Option, Result, Ok, Err}
+use Rattle.std.specs.Prelude.{All}
 use Rattle.std.proofs.lemmas.Bool.{cases_lt}
 use Rattle.std.proofs.lemmas.List.{get_or_past}
 use Rattle.std.proofs.lemmas.List.FromFn.{length-map-range_with_len}
 use Rattle.rand_core.specs.Stream.{Stream}
-use Rattle.co_link.specs.Exchanges.{LinkCall, exchange_of}
+use Rattle.co_link.specs.Exchanges.{exchange_of}
 use Rattle.co_link.specs.declared.messages.Target.{Target}
 use Rattle.co_link.specs.declared.messages.Target.TheVariants as targets_of
 use Rattle.co_link.specs.declared.messages.Request.{Request}
-use Rattle.co_link.specs.declared.messages.Reply.{Reply}
 use Rattle.co_link.specs.declared.messages.Exchange.{Exchange}
 use Rattle.co_noise.specs.Shapes.{Numbers}
 use Rattle.co_math.specs.Coefficients.{AreBelow, IsDegree}
@@ -19,9 +17,8 @@ use Rattle.co_noise.specs.declared.testing.TestFault.{TestFault}
 use Rattle.co_noise.proofs.Ranges.{ranges}
 use Rattle.co_bucket.specs.Lists.{bucket_count}
 use Rattle.co_text.specs.Terms.{distinct}
-use Rattle.co_text.specs.Numbers.{numbers_of}
+use Rattle.co_text.specs.Numbers.{numbers_of, unknown_in}
 use Rattle.co_text.specs.declared.found.Found.{Found}
-use Rattle.co_text.specs.declared.ranks.Ranked.{Ranked}
 use Rattle.co_wire.specs.Reading.{headed}
 use Rattle.co_wire.specs.Public.{ArePublic, fields, public_word, public_bytes, public_of}
 use Rattle.co_wire.specs.Lengths.{reply_size, reply_limit, most_public}
@@ -38,10 +35,10 @@ use Rattle.co_client.specs.Causes.{Search, IsCause, IsAnswered}
 use Rattle.co_client.specs.Faults.{IsManyTerms}
 use Rattle.co_client.specs.Telling.{Makes, Tells, Told}
 use Rattle.co_client.specs.Published.{public_request, Consults, PublicFails}
-use Rattle.co_client.specs.Rounds.{Comes, RoundFails, LinkFails, keys_request}
+use Rattle.co_client.specs.Rounds.{Comes, RoundFails, LinkFails, keys_request, queries_request}
 use Rattle.co_client.proofs.Messages.{has-messages}
-use Rattle.co_client.proofs.Trails.{makes-none, makes-one, makes-same, trail-asks, score_request, record_request, bin_request, IsTrail}
-use Rattle.co_client.proofs.Told.{AreRowsOf, early-rows, tells-here, round-told}
+use Rattle.co_client.proofs.Trails.{makes-none, makes-one, makes-same, trail-asks, score_request, IsTrail}
+use Rattle.co_client.proofs.Told.{for-few, early-rows, round-told}
 
 -- ---- before any request
 
@@ -56,6 +53,7 @@ many-cause run (TooManyKeywords found) h = record {
   refused = (h.0, h.1, refl);
   asked = λ s ts p t. absurd (no_first p.first p.others p.are);
   goes = record { few = λ l. absurd (omega arith); tested = λ s ts p l. absurd (omega arith); taken = λ number e at l. absurd (omega arith) };
+  few = tt;
 }
 many-cause run OutOfMemory h = record {
   follows = refl;
@@ -64,6 +62,7 @@ many-cause run OutOfMemory h = record {
   refused = tt;
   asked = λ s ts p t. absurd (no_first p.first p.others p.are);
   goes = record { few = λ l. absurd (omega arith); tested = λ s ts p l. absurd (omega arith); taken = λ number e at l. absurd (omega arith) };
+  few = tt;
 }
 many-cause run (BadPublic place) h = absurd h
 many-cause run (Test fault) h = absurd h
@@ -81,24 +80,27 @@ many-told run was fault h = record { exchanges = []; makes = makes-none was; tel
 
 -- ---- from the published numbers on
 
-abbrev first_of : List ℕ → Exchange
+abbrev pub first_of : List ℕ → Exchange
 first_of body = exchange_of public_request (reply_with 200 body)
 
--- the numbers are published, and the exchange of them is made
-pub record Begun (run : Search) (was now : Option (List Exchange)) (s : Numbers) : Type 0 where
+-- the numbers are published, and the exchange of them is made; these are the query's terms there, and its others
+pub record Begun (run : Search) (was now : Option (List Exchange)) (s : Numbers) (keywords : List ℕ) (unknown : List (List ℕ)) : Type 0 where
   pub terms : List (List ℕ)
   pub body : List ℕ
   pub few : length (distinct run.query) ≤ 16
   pub read : public_of body ≡ Ok (s, terms)
+  pub good : ArePublic s terms
   pub passes : test_of s ≡ Ok s
+  pub keywords_are : keywords ≡ numbers_of terms (distinct run.query)
+  pub unknown_are : unknown ≡ unknown_in terms (distinct run.query)
   pub messages : List (List ℕ)
   pub are : AreKeywordMessages s (numbers_of terms (distinct run.query)) messages
   pub makes : Makes was now (first_of body ∷ [])
 
-any-rows : Numbers → List ℕ
+pub any-rows : Numbers → List ℕ
 any-rows s = rows_asked s [] []
 
-any-long : (s : Numbers) → length (any-rows s) ≡ bucket_count s.hits
+pub any-long : (s : Numbers) → length (any-rows s) ≡ bucket_count s.hits
 unfolding any-rows
 any-long s = length-map-range_with_len _ 0 (bucket_count s.hits)
 
@@ -126,7 +128,7 @@ read-good s ts body bytes e =
     (whole_takes (headed public_word fields) (λ (p : Numbers × List (List ℕ)). public_bytes p.0 p.1) (λ p. ArePublic p.0 p.1) public_format body (s, ts)
     (λ i. ⊎_elim (λ u. bytes i u) (λ u. subst (λ (x : ℕ). x < 256) (sym (get_or_past body i 0 u)) (omega arith)) (cases_lt i (length body))) e).1
 
-pub begun-of : (run : Search) (was now : Option (List Exchange)) (p : Published) → Consults (distinct run.query) was now p → length (distinct run.query) ≤ 16 → Begun run was now p.tested
+pub begun-of : (run : Search) (was now : Option (List Exchange)) (p : Published) → Consults (distinct run.query) was now p → length (distinct run.query) ≤ 16 → Begun run was now p.tested p.keywords p.unknown
 begun-of run was now p c few =
     let s = p.tested in
     let m = has-messages s (numbers_of c.terms (distinct run.query)) (degree-of s c.terms c.public.good) in
@@ -135,7 +137,10 @@ begun-of run was now p c few =
       body = c.public.body;
       few = few;
       read = c.public.read;
+      good = c.public.good;
       passes = c.passes;
+      keywords_are = c.keywords;
+      unknown_are = c.unknown;
       messages = m.messages;
       are = m.are;
       makes = makes-one was was now [] public_request (reply_with 200 c.public.body) (makes-none was) c.public.comes;
@@ -176,6 +181,7 @@ public-tells run e fault left is few open_end cause known = record {
         left_is = λ a. absurd (open_end a);
       };
   goes = record { few = λ l. few; tested = λ s ts p l. absurd (omega arith); taken = λ number x at l. absurd (omega arith) };
+  few = for-few (length (distinct run.query)) few (Err fault);
 }
 
 no_result : {A : Type 0} (x : A) (place : ℕ) → Err place ≡ Ok x → ⊥
@@ -224,6 +230,7 @@ public-told run was now Link left few h l =
         };
         asked = λ s ts p t. absurd (no_first p.first p.others p.are);
         goes = record { few = λ u. absurd (omega arith); tested = λ s ts p u. absurd (omega arith); taken = λ number e at u. absurd (omega arith) };
+        few = few;
       };
     }
 public-told run was now OutOfMemory left few (inl h) l = record {
@@ -236,6 +243,7 @@ public-told run was now OutOfMemory left few (inl h) l = record {
     refused = tt;
     asked = λ s ts p t. absurd (no_first p.first p.others p.are);
     goes = record { few = λ u. absurd (omega arith); tested = λ s ts p u. absurd (omega arith); taken = λ number e at u. absurd (omega arith) };
+    few = tt;
   };
 }
 public-told run was now OutOfMemory left few (inr h) l = record {
@@ -253,10 +261,10 @@ public-told run was now (BadRecord document place) left few h l = absurd h
 
 -- ---- the round of the keys gives nothing
 
-pub keys-told : (run : Search) (was mid now : Option (List Exchange)) (s : Numbers) (before : ℕ) (fault : SearchFault) (left : Stream) → Begun run was mid s → RoundFails 0 mid now (keys_request s run.stream) fault
+pub keys-told : (run : Search) (was mid now : Option (List Exchange)) (s : Numbers) (keywords : List ℕ) (unknown : List (List ℕ)) (before : ℕ) (fault : SearchFault) (left : Stream) → Begun run was mid s keywords unknown → RoundFails 0 mid now (keys_request s run.stream) fault
     → LinkFails {T = Found} before run.now run.last_failed (record { target = targets_of.Keys; limit = reply_limit s targets_of.Keys }) (Err fault) → run.before ≤ before → Told run was now (Err fault) left
 unfolding keys_request
-keys-told run was mid now s before fault left b h l early =
+keys-told run was mid now s keywords unknown before fault left b h l early =
     let first = first_of b.body in
     let trail : IsTrail s b.messages (any-rows s) 0 run.stream (first ∷ []) = record { requests = refl } in
     round-told run s b.terms b.messages first (any-rows s) 0 b.few b.read b.passes b.are (any-long s) [] trail (early-rows run (first ∷ []) s b.terms (any-rows s) 0 (omega arith)) (one-good first refl)
@@ -264,14 +272,15 @@ keys-told run was mid now s before fault left b h l early =
     refl not_keys refl b.makes early fault h l
 
 -- the keys are handed over
-abbrev keys_of : Numbers → Stream → Exchange
+abbrev pub keys_of : Numbers → Stream → Exchange
 keys_of s stream = exchange_of (keys_request s stream) (reply_with 200 [])
 
 -- the round of the scores gives nothing
-pub scores-told : (run : Search) (was mid next now : Option (List Exchange)) (s : Numbers) (before : ℕ) (fault : SearchFault) (left : Stream) (b : Begun run was mid s) → Comes mid next (keys_request s run.stream) (reply_with 200 [])
+pub scores-told : (run : Search) (was mid next now : Option (List Exchange)) (s : Numbers) (keywords : List ℕ) (unknown : List (List ℕ)) (before : ℕ) (fault : SearchFault) (left : Stream) (b : Begun run was mid s keywords unknown) → Comes mid next (keys_request s run.stream) (reply_with 200 [])
     → RoundFails (reply_size s targets_of.Score) next now (score_request s b.messages run.stream) fault
     → LinkFails {T = Found} before run.now run.last_failed (record { target = targets_of.Score; limit = reply_limit s targets_of.Score }) (Err fault) → run.before ≤ before → Told run was now (Err fault) left
-scores-told run was mid next now s before fault left b came h l early =
+unfolding keys_request queries_request
+scores-told run was mid next now s keywords unknown before fault left b came h l early =
     let first = first_of b.body in
     let second = keys_of s run.stream in
     let trail : IsTrail s b.messages (any-rows s) 0 run.stream (first ∷ second ∷ []) = record { requests = refl } in

@@ -1,8 +1,8 @@
 -- Where a search ends behind its scores, and what it tells there.
-use Rattle.std.proofs.Common.{◌≡◌, ◌≢◌, ℕ, zero, suc, ◌+◌, ◌*◌, ◌/◌, ◌<◌, ◌≤◌, ◌⊎◌, inl, inr, ◌-◌, Bool, true, false, cond, eqb, refl, sym, ap, subst, ◌∙◌, arith, ℤ, List, [], ◌∷◌, ◌++◌, length, get_or, map, take, Option, Some, None, Result, Ok, Err}
-use Rattle.std.specs.Prelude.{All, IfOk, IfErr, slice_get}
+use Rattle.std.proofs.Common.{◌≡◌, ◌≢◌, ℕ, zero, suc, ◌*◌, ◌<◌, ◌≤◌, ◌-◌, Bool, true, false, cond, eqb, refl, sym, ap, subst, ◌∙◌, arith, List, [], ◌∷◌, length, Option, None, Result, Ok, Err}
+use Rattle.std.specs.Prelude.{All, slice_get}
 use Rattle.rand_core.specs.Stream.{Stream}
-use Rattle.co_link.specs.Exchanges.{LinkCall, exchange_of}
+use Rattle.co_link.specs.Exchanges.{exchange_of}
 use Rattle.co_link.specs.declared.messages.Target.{Target}
 use Rattle.co_link.specs.declared.messages.Target.TheVariants as targets_of
 use Rattle.co_link.specs.declared.messages.Reply.{Reply}
@@ -21,7 +21,7 @@ use Rattle.co_text.specs.declared.found.Found.{Found}
 use Rattle.co_text.specs.declared.ranks.Ranked.{Ranked}
 use Rattle.co_text.specs.Ranking.{ranking}
 use Rattle.co_wire.specs.Bodies.{SpellsCiphers}
-use Rattle.co_wire.specs.Public.{public_of}
+use Rattle.co_wire.specs.Public.{ArePublic, public_of}
 use Rattle.co_wire.specs.Lengths.{reply_size, reply_limit}
 use Rattle.co_rounds.specs.Answers.{reply_with}
 use Rattle.co_rounds.specs.Asked.{AreKeywordMessages}
@@ -32,44 +32,50 @@ use Rattle.co_client.specs.declared.fault.SearchFault.{SearchFault}
 use Rattle.co_client.specs.declared.fault.SearchFault.TheVariants.{NoPlacement, OutOfMemory}
 use Rattle.co_client.specs.declared.placing.Placing.{Placing}
 use Rattle.co_client.specs.declared.placing.Placing.TheVariants.{Placed, Unplaced}
-use Rattle.co_client.specs.Causes.{Search, IsRead, ReadsHits, ReadsRecords, ReadsPicked, HasBadRecord, HasBadText, secret_of}
+use Rattle.co_client.specs.Causes.{Search, ReadsHits, ReadsRecords, ReadsPicked, HasBadRecord, HasBadText, secret_of}
 use Rattle.co_client.specs.Faults.{is_want}
-use Rattle.co_client.specs.Telling.{Makes, Tells, Told}
+use Rattle.co_client.specs.Telling.{Makes, Told}
 use Rattle.co_client.specs.Placings.{IsPlacing, by_bucket, shown_of, concluded}
 use Rattle.co_client.specs.Records.{records_read, picked_record, picked_read, bin_asked, hits_shown}
 use Rattle.co_client.specs.Rounds.{Comes, Ranks, RoundFails, LinkFails, keys_request, queries_request}
 use Rattle.co_client.proofs.Exchanged.{in_front}
-use Rattle.co_client.proofs.Unique.{asked_for, hits-one, records-one}
-use Rattle.co_client.proofs.Trails.{makes-one, score_request, record_request, bin_request, IsTrail, trail-whole, after_all}
+use Rattle.co_client.proofs.Unique.{hits-one, records-one}
+use Rattle.co_client.proofs.Trails.{makes-one, score_request, record_request, bin_request, IsTrail, trail-whole, after_scores, after_all}
 use Rattle.co_client.proofs.RecordFaults.{record-refusal, text-refusal}
 use Rattle.co_client.proofs.Told.{AreRowsOf, early-rows, tells-here, tells-all, round-told}
-use Rattle.co_client.proofs.Ends.{Begun, first_of, keys_of}
+use Rattle.co_client.proofs.Ends.{Begun, first_of, keys_of, any-rows, any-long}
 
--- the scores are read, and three exchanges are made
-pub record Scored (run : Search) (was now : Option (List Exchange)) (s : Numbers) (hits : List Ranked) : Type 0 where
+-- the scores are read, three exchanges are made, and this is left of the stream
+pub record Scored (run : Search) (was now : Option (List Exchange)) (s : Numbers) (hits : List Ranked) (unknown : List (List ℕ)) (rest : Stream) : Type 0 where
   pub terms : List (List ℕ)
   pub body : List ℕ
   pub few : length (distinct run.query) ≤ 16
   pub read : public_of body ≡ Ok (s, terms)
+  pub good : ArePublic s terms
   pub passes : test_of s ≡ Ok s
+  pub unknown_are : unknown ≡ unknown_in terms (distinct run.query)
   pub messages : List (List ℕ)
   pub are : AreKeywordMessages s (numbers_of terms (distinct run.query)) messages
+  pub left : rest ≡ after_scores s messages run.stream
   pub reply : List ℕ
   pub replies : List Ciphertext
   pub spelled : SpellsCiphers s.degree (document_blocks s) replies reply
   pub hits_are : hits ≡ ranking s.hits (scores_read s (secret_of run s) replies)
   pub makes : Makes was now (first_of body ∷ keys_of s run.stream ∷ exchange_of (score_request s messages run.stream) (reply_with 200 reply) ∷ [])
 
-pub scored-of : (run : Search) (was mid next now : Option (List Exchange)) (s : Numbers) (hits : List Ranked) (b : Begun run was mid s) → Comes mid next (keys_request s run.stream) (reply_with 200 [])
-    → Ranks s (secret_of run s) next now (score_request s b.messages run.stream) hits → Scored run was now s hits
-scored-of run was mid next now s hits b came r = record {
+pub scored-of : (run : Search) (was mid next now : Option (List Exchange)) (s : Numbers) (keywords : List ℕ) (hits : List Ranked) (unknown : List (List ℕ)) (rest : Stream) (b : Begun run was mid s keywords unknown) → Comes mid next (keys_request s run.stream) (reply_with 200 [])
+    → Ranks s (secret_of run s) next now (score_request s b.messages run.stream) hits → rest ≡ after_scores s b.messages run.stream → Scored run was now s hits unknown rest
+scored-of run was mid next now s keywords hits unknown rest b came r left = record {
   terms = b.terms;
   body = b.body;
   few = b.few;
   read = b.read;
+  good = b.good;
   passes = b.passes;
+  unknown_are = b.unknown_are;
   messages = b.messages;
   are = b.are;
+  left = left;
   reply = r.body;
   replies = r.replies;
   spelled = r.spelled;
@@ -101,12 +107,23 @@ not_document e = subst (λ (t : Target). elim t as (λ _. Type 0) [ targets_of.P
 no_err : {A : Type 0} {x : A} (fault : SearchFault) → Ok x ≡ Err fault → ⊥
 no_err {A} fault e = subst (λ (r : Result A SearchFault). elim r as (λ _. Type 0) [ Ok y ↦ Unit {0} | Err f ↦ ⊥ ]) e tt
 
-value_or : {A : Type 0} → Result A SearchFault → A → A
+abbrev value_or : {A : Type 0} → Result A SearchFault → A → A
 value_or (Ok x) d = x
 value_or (Err e) d = d
 
-ok-value : {A : Type 0} {x y : A} → Ok {A = A} {B = SearchFault} x ≡ Ok y → x ≡ y
+ok-value : {A : Type 0} {x y : A} → ◌≡◌ {A = Result A SearchFault} (Ok x) (Ok y) → x ≡ y
 ok-value {A} {x} e = ap (λ r. value_or r x) e
+
+-- memory is wanting before records are asked for
+pub scored-told : (run : Search) (was now : Option (List Exchange)) (s : Numbers) (hits : List Ranked) (unknown : List (List ℕ)) (rest left : Stream) → Scored run was now s hits unknown rest → Told run was now (Err OutOfMemory) left
+scored-told run was now s hits unknown rest left b =
+    let third = exchange_of (score_request s b.messages run.stream) (reply_with 200 b.reply) in
+    record {
+      exchanges = first_of b.body ∷ keys_of s run.stream ∷ third ∷ [];
+      makes = b.makes;
+      tells = tells-here run s b.terms b.messages (first_of b.body) (any-rows s) 0 b.few b.read b.passes b.are (any-long s) (keys_of s run.stream ∷ third ∷ []) (record { requests = refl })
+          (early-rows run (first_of b.body ∷ keys_of s run.stream ∷ third ∷ []) s b.terms (any-rows s) 0 (omega arith)) (three-good (first_of b.body) (keys_of s run.stream) third refl refl refl) (Err OutOfMemory) left (λ a. a) tt tt;
+    }
 
 -- ---- the rows and the bin that are asked
 
@@ -144,7 +161,7 @@ rows-of run es s ts hits (Unplaced documents buckets) rows bin h are only picked
         refuses (choices_of s others) un.ranks buckets pl.choices un.witness pl.is_least.assigns
 
 -- exchanges in the order of the plan
-module _ (run : Search) (was : Option (List Exchange)) (now : Option (List Exchange)) (s : Numbers) (hits : List Ranked) (b : Scored run was now s hits) (placing : Placing) (rows : List ℕ) (placed : IsPlacing s hits placing)
+module _ (run : Search) (was : Option (List Exchange)) (now : Option (List Exchange)) (s : Numbers) (hits : List Ranked) (unknown : List (List ℕ)) (rest : Stream) (b : Scored run was now s hits unknown rest) (placing : Placing) (rows : List ℕ) (placed : IsPlacing s hits placing)
     (rows_are : rows ≡ rows_asked s (shown_of placing hits) (by_bucket placing)) (long : length rows ≡ bucket_count s.hits) where
   abbrev third : Exchange
   third = exchange_of (score_request s b.messages run.stream) (reply_with 200 b.reply)
@@ -158,15 +175,6 @@ module _ (run : Search) (was : Option (List Exchange)) (now : Option (List Excha
 
   rows-four : (reply : Reply) (bin : ℕ) → AreRowsOf run (first_of b.body ∷ keys_of s run.stream ∷ third ∷ fourth reply ∷ []) s b.terms rows bin
   rows-four reply bin = rows-of run (first_of b.body ∷ keys_of s run.stream ∷ third ∷ fourth reply ∷ []) s b.terms hits placing rows bin placed rows_are (only-four reply) (λ u. absurd (omega arith)) (λ u. absurd (omega arith))
-
-  -- memory is wanting before records are asked for
-  pub scored-told : (left : Stream) → Told run was now (Err OutOfMemory) left
-  scored-told left = record {
-    exchanges = first_of b.body ∷ keys_of s run.stream ∷ third ∷ [];
-    makes = b.makes;
-    tells = tells-here run s b.terms b.messages (first_of b.body) rows 0 b.few b.read b.passes b.are long (keys_of s run.stream ∷ third ∷ []) (record { requests = refl })
-        (early-rows run (first_of b.body ∷ keys_of s run.stream ∷ third ∷ []) s b.terms rows 0 (omega arith)) (three-good (first_of b.body) (keys_of s run.stream) third refl refl refl) (Err OutOfMemory) left (λ a. a) tt tt;
-  }
 
   -- the round of the records gives nothing
   pub records-told : (later : Option (List Exchange)) (before : ℕ) (fault : SearchFault) (left : Stream) → RoundFails (reply_size s targets_of.Meta) now later (record_request s b.messages rows run.stream) fault
@@ -338,9 +346,10 @@ module _ (run : Search) (was : Option (List Exchange)) (now : Option (List Excha
         unplaced-told documents buckets left is at_end = record {
           exchanges = all;
           makes = makes-five;
-          tells = tells-all run s b.terms b.messages (first_of b.body) rows bin b.few b.read b.passes b.are long (keys_of s run.stream ∷ third ∷ fourth_of ∷ fifth_of ∷ []) (record { requests = refl }) (rows-five (reply_with 200 reply5)) good-five (Err (NoPlacement documents buckets)) left refl at_end tt
-              (record { shape = s; terms = b.terms; hits = hits; ranked = reads-hits (fourth_of ∷ fifth_of ∷ []); unplaced = subst (λ (x : Placing). IsPlacing s hits x) is placed },
-              trail-whole s b.terms b.messages rows bin run.stream (first_of b.body) (keys_of s run.stream ∷ third ∷ fourth_of ∷ fifth_of ∷ []) b.are.count long b.read refl (record { requests = refl }));
+          tells = tells-all run s b.terms b.messages (first_of b.body) rows bin b.few b.read b.passes b.are long (keys_of s run.stream ∷ third ∷ fourth_of ∷ fifth_of ∷ []) (record { requests = refl }) (rows-five (reply_with 200 reply5)) good-five (Err (NoPlacement documents buckets)) left refl at_end tt (
+            record { shape = s; terms = b.terms; hits = hits; ranked = reads-hits (fourth_of ∷ fifth_of ∷ []); unplaced = subst (λ (x : Placing). IsPlacing s hits x) is placed },
+            trail-whole s b.terms b.messages rows bin run.stream (first_of b.body) (keys_of s run.stream ∷ third ∷ fourth_of ∷ fifth_of ∷ []) b.are.count long b.read refl (record { requests = refl }),
+          );
         }
 
         -- either of both

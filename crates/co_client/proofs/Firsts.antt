@@ -1,15 +1,14 @@
 -- The first coefficient that is no two bytes, as it is looked for.
-use Rattle.std.proofs.Common.{◌≡◌, ℕ, ◌+◌, ◌<◌, ◌≤◌, sym, ap, subst, ◌∙◌, ⊎_elim, refl, arith, Bool, true, false, cond, eqb, List, length, get_or, Option, Some, None, Result, Ok, Err}
+use Rattle.std.proofs.Common.{◌≡◌, ℕ, ◌<◌, ap, ◌∙◌, ⊎_elim, refl, arith, Bool, true, false, cond, eqb, List, length, get_or, Option, Some, None, Ok, Err}
 use Rattle.std.specs.Prelude.{nat_lt}
 use Rattle.std.specs.List.{position, position_or_len}
-use Rattle.std.proofs.lemmas.Bool.{cases_lt, ltb-false, eqb-true, ne_eqb, eqb-false}
+use Rattle.std.proofs.lemmas.Bool.{cases_lt, ltb-false, eqb-true, ne_eqb}
 use Rattle.std.proofs.lemmas.List.Sums.{fails_before_first}
 use Rattle.std.proofs.lemmas.List.Quantifiers.{position-Some}
 use Rattle.co_math.specs.Coefficients.{AreBelow}
 use Rattle.co_link.specs.declared.messages.Target.{Target}
 use Rattle.co_slots.specs.Payloads.{IsPayload, IsFirstNoByte}
 use Rattle.co_rounds.proofs.Retrievable.{bytes_read}
-use Rattle.co_client.specs.declared.fault.SearchFault.{SearchFault}
 use Rattle.co_client.specs.declared.fault.SearchFault.TheVariants.{NotByte}
 use Rattle.co_client.specs.Records.{bytes_or_fault, opened_bytes}
 

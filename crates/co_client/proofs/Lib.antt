@@ -2,6 +2,7 @@ pub mod Results
 pub mod Spelled
 pub mod Ranged
 pub mod Opened
+pub mod Readings
 pub mod Firsts
 pub mod Drawn
 pub mod Scores
@@ -19,9 +20,14 @@ pub mod Sure_replies
 pub mod Unique
 pub mod Unanswered
 pub mod Placed
+pub mod Unplaced
+pub mod Chained
+pub mod Score_round
 pub mod Told
 pub mod Messages
 pub mod Ends
 pub mod RecordFaults
 pub mod Finishes
+pub mod Checked
+pub mod Conducted
 pub mod Tells_plainly

@@ -1,6 +1,6 @@
 -- Each list of keywords has its messages.
-use Rattle.std.proofs.Common.{◌≡◌, ℕ, ◌+◌, ◌<◌, ◌≤◌, Bool, true, false, cond, sym, ap, subst, ◌∙◌, arith, List, [], length, get_or, map}
-use Rattle.std.specs.List.{range_with_len, list_any}
+use Rattle.std.proofs.Common.{◌≡◌, ℕ, ◌<◌, Bool, true, false, cond, sym, subst, ◌∙◌, arith, List, [], length, get_or, map}
+use Rattle.std.specs.List.{range_with_len}
 use Rattle.std.proofs.lemmas.List.FromFn.{length-map-range_with_len, get_or-map-range_with_len}
 use Rattle.co_math.specs.Parameters.{plain_modulus}
 use Rattle.co_math.specs.Coefficients.{AreBelow, IsDegree}

@@ -1,21 +1,21 @@
 -- A part of a reply, opened one ciphertext after another.
-use Rattle.std.proofs.Common.{◌≡◌, ℕ, zero, suc, ◌+◌, ◌-◌, ◌*◌, ◌<◌, ◌≤◌, refl, sym, ap, subst, ◌∙◌, ⊎_elim, arith, ℤ, List, [], ◌∷◌, ◌++◌, length, get_or, take, drop, Result, Ok, Err}
-use Rattle.std.specs.Prelude.{All, IfOk, IfErr, OnOk}
+use Rattle.std.proofs.Common.{◌≡◌, ℕ, ◌+◌, ◌*◌, ◌<◌, ◌≤◌, sym, ap, subst, ◌∙◌, ⊎_elim, arith, ℤ, List, [], ◌∷◌, ◌++◌, length, drop, Result, Ok, Err}
+use Rattle.std.specs.Prelude.{All, IfOk, IfErr}
 use Rattle.std.proofs.lemmas.Bool.{cases_lt}
 use Rattle.std.proofs.Math.Nat.{mul-le-mul_right}
 use Rattle.std.proofs.lemmas.List.Concat.{flat_map-cons}
 use Rattle.std.proofs.lemmas.List.{append-nil, get_or-take, get_or-drop, length-take, length-drop}
 use Rattle.std.proofs.lemmas.List.Elements.{All-get_or, All-from_get_or}
 use Rattle.co_math.specs.Coefficients.{AreBelow}
-use Rattle.co_slots.specs.Payloads.{IsPayload, IsFirstNoByte}
+use Rattle.co_slots.specs.Payloads.{IsPayload}
 use Rattle.co_slots.specs.Faults.{IsCause}
 use Rattle.co_slots.specs.declared.payloads.ByteFault.{ByteFault}
 use Rattle.co_slots.specs.declared.payloads.ByteFault.TheVariants.{NotByte, OutOfMemory}
 use Rattle.co_bfv.specs.Ciphertexts.{Ciphertext, ciphertext_degree}
 use Rattle.co_bfv.specs.Totals.{ciphertext_at, no_ciphertext}
 use Rattle.co_bfv.specs.Encryptions.{decrypted}
-use Rattle.co_pir.specs.Openings.{opened_reply, IsNoByteFrom, IsCauseFrom}
-use Rattle.co_pir.proofs.Revealing.{IsOpening, payload-append, length-decrypted, opening-first, opening-more, opening-all, opening-whole, opening-fault}
+use Rattle.co_pir.specs.Openings.{opened_reply, IsCauseFrom}
+use Rattle.co_pir.proofs.Revealing.{IsOpening, length-decrypted, opening-first, opening-more, opening-all, opening-whole, opening-fault}
 use Rattle.co_wire.specs.Bodies.{SpellsCiphers}
 use Rattle.co_client.specs.Openings.{part_of, IsPlaceBelow}
 use Rattle.co_client.proofs.Spelled.{spelled-long}
@@ -45,6 +45,13 @@ place-below n secret c OutOfMemory e h = tt
 pub at-within : (n : ℕ) (secret : List ℤ) (c : Ciphertext) (r : Result (List ℕ) ByteFault) → ciphertext_degree c ≡ n → IfErr r (IsCause (opened_reply secret (c ∷ []))) → IfErr r (IsPlaceBelow n)
 at-within n secret c (Ok bytes) e h = tt
 at-within n secret c (Err fault) e h = place-below n secret c fault e h
+
+at-length : (n : ℕ) (secret : List ℤ) (c : Ciphertext) (bytes : List ℕ) → ciphertext_degree c ≡ n → IsPayload bytes (opened_reply secret (c ∷ [])) → length bytes ≡ 2 * n
+at-length n secret c bytes e h = omega (arith, h.len, ap length (opened-single secret c), length-decrypted secret c, e)
+
+pub at-long : (n : ℕ) (secret : List ℤ) (c : Ciphertext) (r : Result (List ℕ) ByteFault) → ciphertext_degree c ≡ n → IfOk r (λ bytes. IsPayload bytes (opened_reply secret (c ∷ []))) → IfOk r (λ bytes. length bytes ≡ 2 * n)
+at-long n secret c (Ok bytes) e h = at-length n secret c bytes e h
+at-long n secret c (Err fault) e h = tt
 
 -- ---- parts
 

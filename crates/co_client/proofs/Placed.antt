@@ -1,9 +1,9 @@
 -- Where the records of placed hits stand.
-use Rattle.std.proofs.Common.{◌≡◌, ℕ, zero, suc, ◌+◌, ◌*◌, ◌/◌, ◌<◌, ◌≤◌, refl, sym, ap, subst, ◌∙◌, arith, eqb, List, [], ◌∷◌, length, get_or, map, replicate, Option, Some, None}
+use Rattle.std.proofs.Common.{◌≡◌, ℕ, ◌*◌, ◌<◌, ◌≤◌, refl, sym, subst, arith, eqb, List, [], ◌∷◌, length, get_or, map, replicate, Option, Some, None}
 use Rattle.std.specs.List.{position, range_with_len}
 use Rattle.std.specs.Option.{unwrap_or}
 use Rattle.std.proofs.lemmas.List.{length-replicate}
-use Rattle.std.proofs.lemmas.List.FromFn.{length-map-range_with_len, length-range_with_len, get_or-range_with_len}
+use Rattle.std.proofs.lemmas.List.FromFn.{length-map-range_with_len}
 use Rattle.std.proofs.lemmas.List.Quantifiers.{position-Some}
 use Rattle.co_math.specs.Degrees.{IsDegree}
 use Rattle.co_noise.specs.Shapes.{Numbers}
@@ -11,12 +11,10 @@ use Rattle.co_text.specs.declared.ranks.Ranked.{Ranked}
 use Rattle.co_bucket.specs.Lists.{bucket_count, listed, lists_of}
 use Rattle.co_bucket.specs.Rows.{records_a_row, rows_of}
 use Rattle.co_bucket.specs.Bytes.{record_row, AreHeld}
-use Rattle.co_bucket.specs.Placement.{IsPlacement}
 use Rattle.co_bucket.proofs.Standing.{fewest_rows, list_at, row_within}
 use Rattle.co_rounds.specs.Serving.{bucket_documents}
-use Rattle.co_rounds.specs.Placing.{choices_of, row_asked, rows_asked, document_at, place_in_bucket}
-use Rattle.co_client.specs.Placings.{place_asked, places_asked, HaveBuckets}
-use Rattle.co_client.specs.Records.{is_placed_here, bucket_of}
+use Rattle.co_rounds.specs.Placing.{row_asked, rows_asked, place_in_bucket}
+use Rattle.co_client.specs.Placings.{place_asked, places_asked}
 
 -- the rows hold the list of each bucket
 held : (s : Numbers) (bucket : ℕ) → IsDegree s.degree → bucket < bucket_count s.hits → s.rows ≡ rows_of s.degree s.documents s.hits s.salt → AreHeld s.degree s.rows (λ d. replicate 256 0) (bucket_documents s bucket)

@@ -1,5 +1,5 @@
 -- The first residue out of range of a body, the front of which spells ciphertexts.
-use Rattle.std.proofs.Common.{◌≡◌, ℕ, zero, suc, ◌+◌, ◌-◌, ◌*◌, ◌%◌, ◌<◌, ◌≤◌, refl, sym, ap, subst, ◌∙◌, ⊎_elim, arith, cond, eqb, List, [], ◌∷◌, ◌++◌, length, take, drop, min, inl, inr}
+use Rattle.std.proofs.Common.{◌≡◌, ℕ, zero, suc, ◌+◌, ◌-◌, ◌*◌, ◌%◌, ◌<◌, ◌≤◌, refl, sym, ap, subst, ◌∙◌, ⊎_elim, arith, cond, eqb, List, [], ◌∷◌, ◌++◌, length, take, drop}
 use Rattle.std.specs.Int.{w64, from_le_bytes}
 use Rattle.std.proofs.lemmas.Bool.{cases_lt}
 use Rattle.std.proofs.lemmas.List.{drop-drop, drop-take, length-take, length-drop, take-take}
@@ -21,13 +21,16 @@ in-range n count cs body h zero k l u = absurd (omega arith)
 in-range n count cs body h (suc m) k l u =
     ⊎_elim (λ (v : residue_at body k < modulus_at k). v)
     (λ (v : modulus_at k ≤ residue_at body k).
-    absurd (no_range (7 * k) (good-list n count cs body (Range (7 * k)) h (spelled-long n count cs body h, record {
-      which = k;
-      is = refl;
-      within = u;
-      here = v;
-      before = λ j w. in-range n count cs body h m j (omega arith) (omega arith);
-    }))))
+    absurd (no_range (7 * k) (good-list n count cs body (Range (7 * k)) h (
+      spelled-long n count cs body h,
+      record {
+        which = k;
+        is = refl;
+        within = u;
+        here = v;
+        before = λ j w. in-range n count cs body h m j (omega arith) (omega arith);
+      },
+    ))))
     (cases_lt (residue_at body k) (modulus_at k))
 
 -- a residue of a part is one of the whole

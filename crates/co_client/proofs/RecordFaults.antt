@@ -1,12 +1,11 @@
 -- Which faults come of reading records and texts.
-use Rattle.std.proofs.Common.{◌≡◌, ℕ, ◌+◌, ◌⊎◌, inl, inr, Bool, true, false, cond, eqb, refl, sym, ap, subst, ◌∙◌, ⊎_elim, arith, ℤ, List, [], ◌∷◌, length, take, drop, Option, Some, None, Result, Ok, Err}
+use Rattle.std.proofs.Common.{◌≡◌, ℕ, ◌+◌, ◌⊎◌, inl, inr, Bool, true, false, cond, eqb, refl, sym, subst, ⊎_elim, ℤ, List, [], ◌∷◌, take, drop, Option, Some, None, Result, Ok, Err}
 use Rattle.std.specs.List.{position}
 use Rattle.co_link.specs.declared.messages.Target.{Target}
 use Rattle.co_link.specs.declared.messages.Target.TheVariants.{Public, Keys, Score, Meta, Document}
 use Rattle.co_link.specs.declared.messages.Exchange.{Exchange}
 use Rattle.co_noise.specs.Shapes.{Numbers}
 use Rattle.co_bfv.specs.Ciphertexts.{Ciphertext}
-use Rattle.co_pack.specs.declared.packing.Place.{Place}
 use Rattle.co_pack.specs.declared.records.Record.{Record}
 use Rattle.co_pack.specs.Records.{record_of}
 use Rattle.co_pir.specs.Openings.{opened_reply}

@@ -1,18 +1,18 @@
 -- How long the bodies are that a search draws.
-use Rattle.std.proofs.Common.{◌≡◌, ℕ, zero, suc, ◌+◌, ◌*◌, ◌/◌, ◌<◌, ◌≤◌, refl, sym, ap, subst, ◌∙◌, arith, ℤ, List, [], ◌∷◌, ◌++◌, length, get_or, map, length-append}
+use Rattle.std.proofs.Common.{◌≡◌, ℕ, zero, suc, ◌+◌, ◌*◌, ◌/◌, refl, sym, ap, ◌∙◌, arith, ℤ, List, [], ◌∷◌, ◌++◌, length, length-append}
 use Rattle.std.specs.Prelude.{All}
 use Rattle.std.specs.List.{flat_map}
 use Rattle.std.proofs.lemmas.List.Concat.{flat_map-cons}
 use Rattle.std.proofs.lemmas.List.Elements.{All-head, All-tail, All-push}
 use Rattle.rand_core.specs.Stream.{Stream}
-use Rattle.co_math.specs.Parameters.{q, digit_count}
+use Rattle.co_math.specs.Parameters.{q}
 use Rattle.co_math.specs.Logarithms.{log2_up}
 use Rattle.co_math.proofs.Residue_lists.{length-residues_of}
 use Rattle.co_noise.specs.Shapes.{Numbers, levels}
-use Rattle.co_bfv.specs.Draws.{secret_draw, uniform_draw, error_draw, encryption_draw}
+use Rattle.co_bfv.specs.Draws.{ternary_draw, secret_draw, uniform_draw, error_draw, encryption_draw}
 use Rattle.co_bfv.specs.Encryptions.{encrypted}
 use Rattle.co_bfv.proofs.Drawn.{length-drawn}
-use Rattle.co_switch.specs.Keys.{Key, Keys, rotation_element, expansion_element}
+use Rattle.co_switch.specs.Keys.{Key, rotation_element, expansion_element}
 use Rattle.co_switch.specs.Draws.{hidden, pairs_draw, key_draw, keys_draw, key_set_draw}
 use Rattle.co_switch.proofs.Drawing.{length-uniform}
 use Rattle.co_wire.specs.Bodies.{polynomial_bytes, cipher_bytes, ciphers_bytes, pairs_bytes, key_bytes, keys_bytes}
@@ -70,8 +70,16 @@ pairs-size n [] ys e a b = omega arith
 pairs-size n (x ∷ xs) [] e a b = absurd (omega arith)
 pairs-size n (x ∷ xs) (y ∷ ys) e a b =
     let P = λ (p : List ℕ). length p ≡ n in
-    omega (arith, length-append (polynomial_bytes x) (polynomial_bytes y ++ pairs_bytes xs ys), length-append (polynomial_bytes y) (pairs_bytes xs ys), polynomial-long x, polynomial-long y, All-head P x xs a, All-head P y ys b,
-    pairs-size n xs ys (omega arith) (All-tail P x xs a) (All-tail P y ys b))
+    omega (
+      arith,
+      length-append (polynomial_bytes x) (polynomial_bytes y ++ pairs_bytes xs ys),
+      length-append (polynomial_bytes y) (pairs_bytes xs ys),
+      polynomial-long x,
+      polynomial-long y,
+      All-head P x xs a,
+      All-head P y ys b,
+      pairs-size n xs ys (omega arith) (All-tail P x xs a) (All-tail P y ys b),
+    )
 
 key-size : (secret : List ℤ) (g : ℕ) (s : Stream) → length (key_bytes (key_draw secret g s).0) ≡ 6 * (28 * length secret)
 unfolding key_draw
@@ -100,7 +108,7 @@ pub keys-size : (s : Numbers) (stream : Stream) → length (keys_bytes (keys_ask
 unfolding keys_asked key_set_draw secret_draw
 keys-size s stream =
     let secret = secret_draw s.degree stream in
-    let n : length secret.0 ≡ s.degree = length-drawn _ s.degree stream in
+    let n : length secret.0 ≡ s.degree = length-drawn ternary_draw s.degree stream in
     let rotations = keys_draw secret.0 (rotation_element (length secret.0)) (log2_up (length secret.0 / 2)) secret.1 in
     let expansions = keys_draw secret.0 (expansion_element (length secret.0)) (levels s) rotations.1 in
     let a = keys-drawn secret.0 (rotation_element (length secret.0)) (log2_up (length secret.0 / 2)) secret.1 in

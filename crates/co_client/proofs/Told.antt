@@ -1,17 +1,16 @@
 -- What a search tells where it ends: one round after another.
-use Rattle.std.proofs.Common.{◌≡◌, ◌≢◌, ℕ, zero, suc, ◌+◌, ◌-◌, ◌*◌, ◌^◌, ◌<◌, ◌≤◌, ◌⊎◌, inl, inr, min, refl, sym, ap, subst, ◌∙◌, arith, ℤ, List, [], ◌∷◌, ◌++◌, length, length-append, get_or, map, take, Option, Some, None, Result, Ok, Err}
+use Rattle.std.proofs.Common.{◌≡◌, ◌≢◌, ℕ, zero, suc, ◌+◌, ◌<◌, ◌≤◌, inl, inr, refl, sym, ap, subst, ◌∙◌, arith, List, [], ◌∷◌, ◌++◌, length, Option, Some, Result, Ok, Err}
 use Rattle.std.specs.Prelude.{All, IfOk, IfErr, slice_get}
 use Rattle.std.proofs.lemmas.Option.{none-some, same_Some}
 use Rattle.std.proofs.lemmas.List.Elements.{All-head, All-tail}
 use Rattle.rand_core.specs.Stream.{Stream}
-use Rattle.co_link.specs.Causes.{Rose}
 use Rattle.co_link.specs.Exchanges.{LinkCall, exchange_of}
 use Rattle.co_link.specs.declared.messages.Target.{Target}
 use Rattle.co_link.specs.declared.messages.Target.TheVariants as targets_of
 use Rattle.co_link.specs.declared.messages.Request.{Request}
 use Rattle.co_link.specs.declared.messages.Reply.{Reply}
 use Rattle.co_link.specs.declared.messages.Exchange.{Exchange}
-use Rattle.co_noise.specs.Shapes.{Numbers, keyword_blocks}
+use Rattle.co_noise.specs.Shapes.{Numbers}
 use Rattle.co_noise.specs.Bounds.{test_of}
 use Rattle.co_bucket.specs.Lists.{bucket_count}
 use Rattle.co_bucket.specs.Placement.{IsPlacement}
@@ -24,18 +23,36 @@ use Rattle.co_wire.specs.Public.{public_of}
 use Rattle.co_wire.specs.Lengths.{reply_size, reply_limit}
 use Rattle.co_rounds.specs.Answers.{reply_with}
 use Rattle.co_rounds.specs.Asked.{asked_draw, AreKeywordMessages}
-use Rattle.co_rounds.specs.Plans.{targets, made, FollowsPlan, IsWholePlan}
+use Rattle.co_rounds.specs.Plans.{targets, made}
 use Rattle.co_rounds.specs.Placing.{choices_of, rows_asked, IsUnplaced}
 use Rattle.co_client.specs.declared.fault.SearchFault.{SearchFault}
 use Rattle.co_client.specs.declared.fault.SearchFault.TheVariants.{TooManyKeywords, BadPublic, Test, NoPlacement, Link, Refused, BadReply, WrongRecord, BadPlace, NotByte, BadRecord, OutOfMemory}
-use Rattle.co_client.specs.Causes.{Search, Publishes, IsRead, IsCause, IsCauseUntold, IsAnswered, Asks, ReadsHits, ReadsRecords}
+use Rattle.co_client.specs.Causes.{Search, Publishes, IsRead, IsCause, IsAnswered, Asks, ReadsHits, ReadsRecords}
 use Rattle.co_client.specs.Going.{GoesOn}
+use Rattle.co_client.specs.Faults.{IsForFew}
 use Rattle.co_client.specs.Telling.{Makes, Tells, Told}
 use Rattle.co_client.specs.Openings.{IsBadReply}
 use Rattle.co_client.specs.Records.{picked_record, bin_asked}
-use Rattle.co_client.specs.Rounds.{Comes, RoundFails, RefusesStatus, RefusesBody, ComesSomehow, LinkFails}
+use Rattle.co_client.specs.Rounds.{Comes, RoundFails, RefusesBody, LinkFails}
 use Rattle.co_client.proofs.Trails.{makes-one, makes-same, made-are, after_all, IsTrail, trail-follows, trail-whole, trail-asks, asked-rest}
 use Rattle.co_client.proofs.Unique.{publishes-one}
+
+-- ---- few terms
+
+pub for-few : (number : ℕ) → number ≤ 16 → (result : Result Found SearchFault) → IsForFew number result
+for-few number few (Ok x) = few
+for-few number few (Err (TooManyKeywords found)) = tt
+for-few number few (Err OutOfMemory) = tt
+for-few number few (Err (BadPublic place)) = few
+for-few number few (Err (Test fault)) = few
+for-few number few (Err (NoPlacement documents buckets)) = few
+for-few number few (Err Link) = few
+for-few number few (Err (Refused target status)) = few
+for-few number few (Err (BadReply target place)) = few
+for-few number few (Err (WrongRecord wanted found)) = few
+for-few number few (Err (BadPlace document)) = few
+for-few number few (Err (NotByte target reply place)) = few
+for-few number few (Err (BadRecord document place)) = few
 
 -- ---- rows and bin
 
@@ -110,6 +127,7 @@ module _ (run : Search) (s : Numbers) (ts ms : List (List ℕ)) (first : Exchang
       refused = cause;
       asked = asks-any qs result left (asks (first ∷ qs) result left trail right (λ a. absurd (open_end a)));
       goes = goes-on qs (λ number e at l. taken-all (first ∷ qs) e number good at);
+      few = for-few (length (distinct run.query)) few result;
     }
 
     -- all five exchanges were made
@@ -121,6 +139,7 @@ module _ (run : Search) (s : Numbers) (ts ms : List (List ℕ)) (first : Exchang
       refused = cause;
       asked = asks-any qs result left (asks (first ∷ qs) result left trail right (λ a. last));
       goes = goes-on qs (λ number e at l. taken-all (first ∷ qs) e number good at);
+      few = for-few (length (distinct run.query)) few result;
     }
 
     -- an end with one further exchange, whatever its reply, that is no answer
@@ -133,6 +152,7 @@ module _ (run : Search) (s : Numbers) (ts ms : List (List ℕ)) (first : Exchang
       refused = cause;
       asked = asks-any (qs ++ exchange_of r reply ∷ []) (Err fault) left (asks (first ∷ (qs ++ exchange_of r reply ∷ [])) (Err fault) left more right_more (λ a. absurd (open_end a)));
       goes = goes-on (qs ++ exchange_of r reply ∷ []) (λ number e at l. taken-front (first ∷ qs) e (exchange_of r reply) number good at l);
+      few = for-few (length (distinct run.query)) few (Err fault);
     }
 
     -- a round that gives nothing

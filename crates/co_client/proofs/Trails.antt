@@ -1,8 +1,7 @@
 -- The exchanges of a search, one behind another.
-use Rattle.std.proofs.Common.{◌≡◌, ℕ, zero, suc, ◌+◌, ◌-◌, ◌*◌, ◌/◌, ◌<◌, ◌≤◌, refl, sym, ap, subst, ◌∙◌, arith, ℤ, List, [], ◌∷◌, ◌++◌, length, get_or, map, take, drop, append_assoc, Option, Some, None, Result, Ok, Err}
-use Rattle.std.proofs.Math.Option.{some-injective}
+use Rattle.std.proofs.Common.{◌≡◌, ℕ, ◌*◌, refl, sym, ap, subst, ◌∙◌, arith, ℤ, List, [], ◌∷◌, ◌++◌, length, map, take, drop, append_assoc, Option, Some, None, Ok}
+use Rattle.std.proofs.lemmas.Option.{same_Some}
 use Rattle.std.proofs.lemmas.List.{append-nil, take_at, drop_at, take-map, length-map}
-use Rattle.std.proofs.lemmas.List.FromFn.{length-map-range_with_len}
 use Rattle.rand_core.specs.Stream.{Stream}
 use Rattle.co_link.specs.Exchanges.{exchange_of}
 use Rattle.co_link.specs.declared.messages.Target.{Target}
@@ -12,13 +11,12 @@ use Rattle.co_link.specs.declared.messages.Reply.{Reply}
 use Rattle.co_link.specs.declared.messages.Exchange.{Exchange}
 use Rattle.co_noise.specs.Shapes.{Numbers, keyword_blocks}
 use Rattle.co_bucket.specs.Lists.{bucket_count}
-use Rattle.co_bfv.specs.Draws.{secret_draw}
+use Rattle.co_bfv.specs.Draws.{ternary_draw, secret_draw}
 use Rattle.co_bfv.proofs.Drawn.{length-drawn}
-use Rattle.co_wire.specs.Bodies.{keys_bytes, ciphers_bytes}
 use Rattle.co_wire.specs.Lengths.{request_size}
 use Rattle.co_wire.specs.Public.{public_of}
-use Rattle.co_rounds.specs.Asked.{Asked, asked_draw, bodies_of, encryptions_draw, row_message, AreKeywordMessages}
-use Rattle.co_rounds.specs.Plans.{Seen, trace, targets, plan, plan_of, planned, FollowsPlan, IsWholePlan, made, Extends}
+use Rattle.co_rounds.specs.Asked.{asked_draw, bodies_of, row_message}
+use Rattle.co_rounds.specs.Plans.{Seen, trace, plan, plan_of, FollowsPlan, IsWholePlan, made, Extends}
 use Rattle.co_client.specs.Telling.{Makes}
 use Rattle.co_client.specs.Published.{public_request}
 use Rattle.co_client.specs.Rounds.{Comes, ComesNone, keys_asked, keys_request, queries_request, queries_rest, record_messages, bin_messages}
@@ -48,7 +46,7 @@ pub made-are : (was now : Option (List Exchange)) (es fs : List Exchange) → Ma
 made-are None now es fs h e = absurd (no_list fs e)
 made-are (Some old) now es fs h e =
     sym (drop_at old es (length old) refl)
-    ∙ some-injective (drop (length old) (old ++ es)) fs (subst (λ (m : Option (List Exchange)). made (Some old) m ≡ Some fs → Some (drop (length old) (old ++ es)) ≡ Some fs) (sym h) (λ d. d) e)
+    ∙ same_Some (drop (length old) (old ++ es)) fs (subst (λ (m : Option (List Exchange)). made (Some old) m ≡ Some fs → Some (drop (length old) (old ++ es)) ≡ Some fs) (sym h) (λ d. d) e)
 
 pub made-extends : (was now : Option (List Exchange)) (es : List Exchange) → Makes was now es → Extends was now
 made-extends None now es h = h
@@ -95,7 +93,7 @@ asked-rest s ms rows bin stream = refl
 -- the plan's lengths
 queries-long : (t : Target) (s : Numbers) (stream : Stream) (ms : List (List ℕ)) (from : Stream) → length (queries_request t (secret_at s stream) ms from).body ≡ length ms * (28 * s.degree)
 unfolding queries_request secret_draw
-queries-long t s stream ms from = queries-size (secret_draw s.degree stream).0 ms from ∙ ap (λ (k : ℕ). length ms * (28 * k)) (length-drawn _ s.degree stream)
+queries-long t s stream ms from = queries-size (secret_draw s.degree stream).0 ms from ∙ ap (λ (k : ℕ). length ms * (28 * k)) (length-drawn ternary_draw s.degree stream)
 
 keys-long : (s : Numbers) (stream : Stream) → length (keys_request s stream).body ≡ request_size s Keys
 unfolding keys_request

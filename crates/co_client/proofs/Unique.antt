@@ -1,10 +1,10 @@
 -- What the exchanges of a search show, they show in one way.
-use Rattle.std.proofs.Common.{◌≡◌, ◌≢◌, ℕ, zero, suc, ◌+◌, ◌*◌, ◌<◌, ◌≤◌, refl, sym, ap, subst, ◌∙◌, arith, ℤ, List, [], ◌∷◌, ◌++◌, length, get_or, map, Option, Some, None, Result, Ok, Err}
+use Rattle.std.proofs.Common.{◌≡◌, ℕ, zero, suc, ◌*◌, sym, ap, subst, ◌∙◌, List, [], ◌∷◌, get_or, map, Option, Some, Result, Ok}
 use Rattle.std.specs.Prelude.{slice_get}
 use Rattle.std.proofs.lemmas.Option.{none-some, same_Some}
 use Rattle.co_link.specs.Exchanges.{exchange_of}
 use Rattle.co_link.specs.declared.messages.Target.{Target}
-use Rattle.co_link.specs.declared.messages.Target.TheVariants.{Public, Keys, Score, Meta, Document}
+use Rattle.co_link.specs.declared.messages.Target.TheVariants.{Score, Meta}
 use Rattle.co_link.specs.declared.messages.Request.{Request}
 use Rattle.co_link.specs.declared.messages.Exchange.{Exchange}
 use Rattle.co_noise.specs.Shapes.{Numbers, document_blocks}
@@ -32,7 +32,7 @@ use Rattle.co_client.proofs.Exchanged.{place_is}
 -- ---- the published numbers
 
 pub publishes-one : (s : Numbers) (ts : List (List ℕ)) (first : Exchange) (others : List Exchange) → public_of first.reply.body ≡ Ok (s, ts)
-    → (s' : Numbers) (ts' : List (List ℕ)) → Publishes (first ∷ others) s' ts' → (s, ts) ≡ (s', ts')
+    → (s' : Numbers) (ts' : List (List ℕ)) → Publishes (first ∷ others) s' ts' → ◌≡◌ {A = Numbers × List (List ℕ)} (s, ts) (s', ts')
 publishes-one s ts first others read s' ts' p =
     let head : first ≡ p.first = ap (λ (es : List Exchange). get_or es 0 first) p.are in
     ok_is (s, ts) (s', ts') (sym read ∙ ap (λ (e : Exchange). public_of e.reply.body) head ∙ p.read)
@@ -40,7 +40,7 @@ publishes-one s ts first others read s' ts' p =
 -- ---- the replies
 
 -- the targets of exchanges
-abbrev asked_for : List Exchange → List Target
+abbrev pub asked_for : List Exchange → List Target
 asked_for es = map (λ e. e.request.target) es
 
 target-at : (es : List Exchange) (number : ℕ) (e : Exchange) → slice_get es number ≡ Some e → slice_get (asked_for es) number ≡ Some e.request.target

@@ -1,5 +1,5 @@
 -- Answers that are read as wanted.
-use Rattle.std.specs.Prelude.{◌≡◌, ◌<◌, ℕ, min, Bool, true, false, Result, Ok, Err}
+use Rattle.std.specs.Prelude.{◌≡◌, ◌<◌, ◌≤◌, ℕ, min, Bool, true, false, Result, Ok, Err}
 use Rattle.co_client.specs.declared.fault.SearchFault.{SearchFault}
 use Rattle.co_client.specs.declared.fault.SearchFault.TheVariants.{TooManyKeywords, BadPublic, Test, NoPlacement, Link, Refused, BadReply, WrongRecord, BadPlace, NotByte, BadRecord, OutOfMemory}
 
@@ -38,3 +38,19 @@ IsManyTerms number (WrongRecord wanted found) = ⊥
 IsManyTerms number (BadPlace document) = ⊥
 IsManyTerms number (NotByte target reply place) = ⊥
 IsManyTerms number (BadRecord document place) = ⊥
+
+-- an answer for so many terms: each but that there are too many, and want of memory, comes only for at most 16
+abbrev pub IsForFew : {X : Type 0} → ℕ → Result X SearchFault → Type 0
+IsForFew number (Ok x) = number ≤ 16
+IsForFew number (Err (TooManyKeywords found)) = Unit {0}
+IsForFew number (Err OutOfMemory) = Unit {0}
+IsForFew number (Err (BadPublic place)) = number ≤ 16
+IsForFew number (Err (Test fault)) = number ≤ 16
+IsForFew number (Err (NoPlacement documents buckets)) = number ≤ 16
+IsForFew number (Err Link) = number ≤ 16
+IsForFew number (Err (Refused target status)) = number ≤ 16
+IsForFew number (Err (BadReply target place)) = number ≤ 16
+IsForFew number (Err (WrongRecord wanted found)) = number ≤ 16
+IsForFew number (Err (BadPlace document)) = number ≤ 16
+IsForFew number (Err (NotByte target reply place)) = number ≤ 16
+IsForFew number (Err (BadRecord document place)) = number ≤ 16

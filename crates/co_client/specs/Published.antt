@@ -1,5 +1,5 @@
 -- The round of the published parameters.
-use Rattle.std.specs.Prelude.{◌≡◌, ◌⊎◌, ℕ, List, [], Option, Result, Ok, Err}
+use Rattle.std.specs.Prelude.{◌≡◌, ◌⊎◌, ℕ, List, [], Option, Ok, Err}
 use Rattle.co_link.specs.declared.messages.Target.TheVariants.{Public}
 use Rattle.co_link.specs.declared.messages.Request.{Request}
 use Rattle.co_link.specs.declared.messages.Exchange.{Exchange}

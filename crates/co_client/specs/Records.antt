@@ -1,5 +1,5 @@
 -- How a client reads the records of hits and the picked document, from what it decrypts.
-use Rattle.std.specs.Prelude.{ℕ, ℤ, ◌+◌, ◌-◌, ◌==◌, List, [], ◌∷◌, length, map, take, drop, slice_get, Option, Some, None, Bool, false, Result, Ok, Err, if◌then◌else◌}
+use Rattle.std.specs.Prelude.{ℕ, ℤ, ◌+◌, ◌-◌, ◌==◌, List, [], ◌∷◌, take, drop, slice_get, Option, Some, None, Bool, false, Result, Ok, Err, if◌then◌else◌}
 use Rattle.std.specs.List.{position}
 use Rattle.std.specs.Option.{unwrap_or}
 use Rattle.co_link.specs.declared.messages.Target.{Target}

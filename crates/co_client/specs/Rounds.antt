@@ -7,13 +7,11 @@ use Rattle.co_link.specs.declared.messages.Request.{Request}
 use Rattle.co_link.specs.declared.messages.Reply.{Reply}
 use Rattle.co_link.specs.declared.messages.Exchange.{Exchange}
 use Rattle.rand_core.specs.Stream.{Stream}
-use Rattle.co_link.specs.declared.messages.Target.TheVariants.{Keys as ForKeys, Score, Meta, Document}
+use Rattle.co_link.specs.declared.messages.Target.TheVariants.{Keys as ForKeys}
 use Rattle.co_math.specs.Coefficients.{AreBelow}
 use Rattle.co_noise.specs.Shapes.{Numbers, levels, document_blocks}
 use Rattle.co_bfv.specs.Ciphertexts.{Ciphertext}
 use Rattle.co_bfv.specs.Draws.{secret_draw}
-use Rattle.co_bucket.specs.Lists.{bucket_count}
-use Rattle.co_bucket.specs.Bytes.{record_chunks}
 use Rattle.co_text.specs.declared.ranks.Ranked.{Ranked}
 use Rattle.co_text.specs.Ranking.{ranking}
 use Rattle.co_switch.specs.Keys.{Keys}

@@ -72,7 +72,13 @@ pub fn fetch<K: Link, R: Rng>(
         Ok(body) => body,
         Err(fault) => return Err(fault),
     };
-    match check_reply(alloc, degree, shape.chunks(), Target::Document, body.as_slice()) {
+    match check_reply(
+        alloc,
+        degree,
+        shape.chunks(),
+        Target::Document,
+        body.as_slice(),
+    ) {
         Ok(()) => Ok(body),
         Err(fault) => Err(fault),
     }
@@ -90,7 +96,6 @@ pub fn bin_of(records: &[Record], pick: u32) -> u32
 }
 
 /// The text at a place of the bin that a reply spells.
-#[tactic(auto, unfolding(crate::specs::Records::text_read))]
 fn read_text(
     alloc: Global,
     reader: &Reader,

@@ -19,6 +19,8 @@ mod recording;
 mod scoring;
 mod searching;
 mod starting;
+#[cfg(test)]
+mod tests;
 
 pub use fault::SearchFault;
 pub use searching::search;

@@ -25,7 +25,10 @@ pub enum Placing {
     /// Bucket by bucket the rank of the hit, from 0.
     Placed(Placement),
     /// Documents and buckets, ascending, one bucket fewer than documents.
-    Unplaced { documents: Numbers, buckets: Numbers },
+    Unplaced {
+        documents: Numbers,
+        buckets: Numbers,
+    },
 }
 
 impl Placing {

@@ -108,6 +108,7 @@ fn open_at(
     ensures whole { OnOk result ((cs : List Ciphertext) (count : ℕ) → SpellsCiphers degree count cs body.now → AreBelow 65536 (decrypted secret.now (ciphertext_at cs at))) }
     ensures fault { IfErr result (λ fault. (cs : List Ciphertext) (count : ℕ) → SpellsCiphers degree count cs body.now → IsCause (decrypted secret.now (ciphertext_at cs at)) fault) }
     ensures within { IfErr result (IsPlaceBelow degree) }
+    ensures long { IfOk result (λ bytes. length bytes ≡ 2 * degree) }
 {
     let n = degree.get();
     let Ok(cipher) = cipher_at(alloc, degree, body, at) else {
@@ -136,6 +137,7 @@ fn open_one(
     ensures whole { OnOk result ((cs : List Ciphertext) (count : ℕ) → SpellsCiphers degree count cs body.now → AreBelow 65536 (decrypted secret.now (ciphertext_at cs at))) }
     ensures fault { IfErr result (λ fault. (cs : List Ciphertext) (count : ℕ) → SpellsCiphers degree count cs body.now
         → IsCauseFrom (chunk * degree) (decrypted secret.now (ciphertext_at cs at)) fault) }
+    ensures long { OnOk result (length bytes.new ≡ length bytes.old + 2 * degree) }
 {
     let n = degree.get() as usize;
     match open_at(alloc, secret, degree, body, at) {
@@ -165,6 +167,7 @@ fn open_from(
     ensures bytes { IfOk result (λ bytes. (cs : List Ciphertext) (all : ℕ) → SpellsCiphers degree all cs body.now → IsPayload bytes (opened_reply secret.now (part_of from count cs))) }
     ensures whole { OnOk result ((cs : List Ciphertext) (all : ℕ) → SpellsCiphers degree all cs body.now → AreBelow 65536 (opened_reply secret.now (part_of from count cs))) }
     ensures fault { IfErr result (λ fault. (cs : List Ciphertext) (all : ℕ) → SpellsCiphers degree all cs body.now → IsCause (opened_reply secret.now (part_of from count cs)) fault) }
+    ensures long { IfOk result (λ bytes. length bytes ≡ 2 * (count * degree)) }
 {
     let n = degree.get() as usize;
     let Ok(mut bytes) = Bytes::with_capacity(alloc, 2 * n * count) else {
@@ -190,8 +193,9 @@ pub(crate) fn open_part(
     requires one_degree { length secret.now ≡ degree }
     requires whole { (reply * count + count) * cipher_size degree ≤ length body.now }
     requires few { count * degree ≤ 2 ^ 32 }
-    ensures { (cs : List Ciphertext) (all : ℕ) → SpellsCiphers degree all cs body.now
+    ensures read { (cs : List Ciphertext) (all : ℕ) → SpellsCiphers degree all cs body.now
         → IsReadAs result (opened_bytes target reply (opened_reply secret.now (part_of (reply * count) count cs))) }
+    ensures long { IfOk result (λ bytes. length bytes ≡ 2 * (count * degree)) }
 {
     let from = reply as usize * count as usize;
     match open_from(alloc, secret, degree, body, from, count as usize) {

@@ -137,7 +137,8 @@ fn check_record(
     bytes: &[u8],
 ) -> Result<Record, SearchFault>
     requires { length bytes.now ≡ RECORD_BYTES }
-    ensures { IsReadAs result (checked shape.now document (record_of bytes.now)) }
+    ensures read { IsReadAs result (checked shape.now document (record_of bytes.now)) }
+    ensures within { IfOk result (λ r. recordings.is_within_bins shape.now r.place ≡ true) }
 {
     let record = match read_record(alloc, bytes) {
         Ok(record) => record,
@@ -159,7 +160,6 @@ fn check_record(
 }
 
 /// The record of a document that stands at a place of a bucket's list.
-#[tactic(auto, unfolding(crate::specs::Records::record_read))]
 fn read_one(
     alloc: Global,
     reader: &Reader,
@@ -171,8 +171,9 @@ fn read_one(
     requires whole { length body.now ≡ reply_size reader.now.shape targets.Meta }
     requires bucket { bucket < bucket_count reader.now.shape.hits }
     requires place { place ≡ place_in_bucket reader.now.shape bucket document }
-    ensures { (cs : List Ciphertext) (all : ℕ) → SpellsCiphers reader.now.shape.degree all cs body.now
+    ensures read { (cs : List Ciphertext) (all : ℕ) → SpellsCiphers reader.now.shape.degree all cs body.now
         → IsReadAs result (record_read reader.now.shape reader.now.secret cs bucket document) }
+    ensures within { IfOk result (λ r. recordings.is_within_bins reader.now.shape r.place ≡ true) }
 {
     let shape = reader.tested().shape();
     let size = shape.degree();
@@ -184,7 +185,12 @@ fn read_one(
         Err(fault) => return Err(fault),
     };
     let start = RECORD_BYTES * (place % records_a_row(size) as usize);
-    check_record(alloc, shape, document, &row.as_slice()[start..start + RECORD_BYTES])
+    check_record(
+        alloc,
+        shape,
+        document,
+        &row.as_slice()[start..start + RECORD_BYTES],
+    )
 }
 
 /// Whether the hit of a rank is placed here.
@@ -224,9 +230,12 @@ pub fn read_records(
     requires placed { HaveBuckets reader.now.shape hits.now placed.now }
     requires few { length hits.now ≤ 64 }
     requires places { places.now ≡ places_asked reader.now.shape hits.now placed.now }
-    ensures { (cs : List Ciphertext) (all : ℕ) → SpellsCiphers reader.now.shape.degree all cs body.now
+    ensures read { (cs : List Ciphertext) (all : ℕ) → SpellsCiphers reader.now.shape.degree all cs body.now
         → IsReadAs result (records_read reader.now.shape reader.now.secret cs placed.now 0 hits.now) }
+    ensures within { IfOk result (λ records. All (λ r. recordings.is_within_bins reader.now.shape r.place ≡ true) records) }
+    ensures long { IfOk result (λ records. length records ≡ length hits.now) }
 {
+    let _ = reader.tested().shape().degree();
     let Ok(mut records) = Listed::with_capacity(alloc, hits.len()) else {
         return Err(SearchFault::OutOfMemory);
     };

@@ -119,7 +119,14 @@ fn score_queries<R: Rng>(
     let mut body = Vec::with_capacity(alloc, long as usize)?;
     let blocks = shape.keyword_blocks();
     for block in 0..blocks {
-        write_keywords(&table, keywords, block as usize, slots, &mut scratch, &mut message);
+        write_keywords(
+            &table,
+            keywords,
+            block as usize,
+            slots,
+            &mut scratch,
+            &mut message,
+        );
         put_query(alloc, secret, &message, rng, &mut body)?;
     }
     Ok(Bytes::from_vec(body))
@@ -183,7 +190,15 @@ fn read_scores(alloc: Global, reader: &Reader, body: &[u8]) -> Result<Vec<u32>, 
     let mut scores = Vec::with_capacity(alloc, documents)?;
     let blocks = shape.document_blocks();
     for block in 0..blocks {
-        read_slots(alloc, reader, &table, body, block as usize, &mut scratch, slots)?;
+        read_slots(
+            alloc,
+            reader,
+            &table,
+            body,
+            block as usize,
+            &mut scratch,
+            slots,
+        )?;
         add_scores(slots, documents, &mut scores)?;
     }
     Ok(scores)

@@ -15,7 +15,7 @@ ghost use Rattle.co_client.specs.Causes.{Search, Publishes, IsRead, IsCause, IsC
 ghost use Rattle.co_client.specs.Going.{GoesOn};
 ghost use Rattle.co_client.specs.Plain.{AnswersPlainly};
 ghost use Rattle.co_client.specs.Telling.{Told};
-ghost use Rattle.co_client.specs.Faults.{IsManyTerms};
+ghost use Rattle.co_client.specs.Faults.{IsManyTerms, IsForFew};
 ghost use Rattle.co_client.specs.Placings.{concluded};
 ghost use Rattle.co_client.specs.Records.{hit_shown, hits_shown};
 
@@ -91,7 +91,6 @@ fn conduct<K: Link, R: Rng>(
     requires pick { (1 ≤ pick) × (pick ≤ 64) }
     requires ready { K.is_ready link.old ≡ true }
     ensures told { Told (record { query = terms query.now; pick = pick; stream = R.stream rng.old; before = K.faults link.old; now = K.faults link.new; last_failed = K.last_failed link.new }) (K.exchanges link.old) (K.exchanges link.new) result (R.stream rng.new) }
-    ensures untold { IfErr result (IsCauseUntold (record { query = terms query.now; pick = pick; stream = R.stream rng.old; before = K.faults link.old; now = K.faults link.new; last_failed = K.last_failed link.new })) }
     ensures faults { K.faults link.old ≤ K.faults link.new }
     ensures ready { K.is_ready link.new ≡ true }
     ensures beside { K.beside link.new ≡ K.beside link.old }
@@ -108,43 +107,49 @@ fn conduct<K: Link, R: Rng>(
         Ok(reader) => reader,
         Err(fault) => return Err(fault),
     };
-    let ranked = match rank(alloc, link, rng, &reader, published.keywords.as_slice()) {
+    let numbers = published.keywords.as_slice();
+    let ranked = match rank(alloc, link, rng, &reader, numbers) {
         Ok(ranked) => ranked,
         Err(fault) => return Err(fault),
     };
     let shape = reader.tested().shape();
-    let Ok(placing) = place_hits(alloc, shape, ranked.as_slice()) else {
+    let hits = ranked.as_slice();
+    let Ok(placing) = place_hits(alloc, shape, hits) else {
         return Err(SearchFault::OutOfMemory);
     };
-    let shown = placing.shown(ranked.as_slice());
-    let Ok(spots) = places(alloc, shape, shown, placing.by_bucket()) else {
+    let shown = placing.shown(hits);
+    let placed = placing.by_bucket();
+    let Ok(spots) = places(alloc, shape, shown, placed) else {
         return Err(SearchFault::OutOfMemory);
     };
-    let body = match gather(alloc, link, rng, &reader, &spots) {
-        Ok(body) => body,
+    let asked = spots.as_slice();
+    let rows = match gather(alloc, link, rng, &reader, asked) {
+        Ok(rows) => rows,
         Err(fault) => return Err(fault),
     };
-    let placed = placing.by_bucket();
-    let records = match read_records(alloc, &reader, body.as_slice(), shown, placed, &spots) {
+    let body = rows.as_slice();
+    let records = match read_records(alloc, &reader, body, shown, placed, asked) {
         Ok(records) => records,
         Err(fault) => return Err(fault),
     };
-    let bin = bin_of(records.as_slice(), pick);
-    let body = match fetch(alloc, link, rng, &reader, bin) {
-        Ok(body) => body,
+    let read = records.as_slice();
+    let bin = bin_of(read, pick);
+    let chunks = match fetch(alloc, link, rng, &reader, bin) {
+        Ok(chunks) => chunks,
         Err(fault) => return Err(fault),
     };
-    let document = match read_document(alloc, &reader, body.as_slice(), records.as_slice(), pick) {
+    let body = chunks.as_slice();
+    let document = match read_document(alloc, &reader, body, read, pick) {
         Ok(document) => document,
         Err(fault) => return Err(fault),
     };
-    let Ok(hits) = with_titles(alloc, shown, records.as_slice()) else {
+    let Ok(titled) = with_titles(alloc, shown, read) else {
         return Err(SearchFault::OutOfMemory);
     };
     conclude(
         placing,
         Found {
-            hits,
+            hits: titled,
             unknown: published.unknown,
             document,
         },
@@ -180,6 +185,8 @@ pub fn search<K: Link, R: Rng>(
     ensures refused { (es : List Exchange) → made (K.exchanges link.old) (K.exchanges link.new) ≡ Some es
         → IfErr result (IsCause (record { query = terms query.now; pick = pick; stream = R.stream rng.old; before = K.faults link.old; now = K.faults link.new; last_failed = K.last_failed link.new }) es) }
     ensures untold { IfErr result (IsCauseUntold (record { query = terms query.now; pick = pick; stream = R.stream rng.old; before = K.faults link.old; now = K.faults link.new; last_failed = K.last_failed link.new })) }
+    // Any other answer than too many keywords, or want of memory, comes only for few.
+    ensures few { IsForFew (length (distinct (terms query.now))) result }
     // The requests are the drawn ones.
     ensures asked { (es : List Exchange) → made (K.exchanges link.old) (K.exchanges link.new) ≡ Some es
         → (s : Numbers) (ts : List (List ℕ)) → Publishes es s ts → test_of s ≡ Ok s

@@ -1,6 +1,6 @@
 -- What a step of a session makes of a request.
-use Rattle.std.proofs.Common.{◌≡◌, ℕ, List, Option, refl, sym, ap, subst}
-use Rattle.std.specs.Prelude.{IsTrue}
+use Rattle.std.proofs.Common.{◌≡◌, ℕ, List, Option, Some, None, refl, sym, ap, subst}
+use Rattle.std.specs.Prelude.{IsTrue, IfSome}
 use Rattle.co_link.specs.declared.messages.Target.{Target}
 use Rattle.co_link.specs.declared.messages.Target.TheVariants.{Public, Keys as ForKeys, Score, Meta, Document}
 use Rattle.co_link.specs.declared.messages.Request.{Request}
@@ -12,7 +12,8 @@ use Rattle.co_rounds.specs.declared.answer.Answer.{Answer}
 use Rattle.co_rounds.specs.declared.answer.Answer.TheVariants.{Done, Length, NoKeys, Range, OutOfMemory}
 use Rattle.co_serving.specs.Conversation.{is_reply_status}
 use Rattle.co_server.specs.Kept.{IsEmptyDone}
-use Rattle.co_connections.specs.Serving.{ServingState, IsStep}
+use Rattle.co_serving.specs.declared.ended.Ended.{Ended}
+use Rattle.co_connections.specs.Serving.{ServingState, IsStep, fresh, Serving, ServesLibrary}
 
 -- the status of a reply to an answer is one of a service
 pub reply_status : (answer : Answer) → IsTrue (is_reply_status (reply_of answer).status)
@@ -42,13 +43,25 @@ keys_left l old new r NoKeys is holds some = holds
 keys_left l old new r (Range place) is holds some = holds
 keys_left l old new r OutOfMemory is holds some = holds
 
+-- a step whose reply has memory
+pub stepped : (l : Parts) (old new : Option Keys) (s : ServingState) (r : Request) (answer : Answer) (reply : Reply) → record { library = l; keys = old } ≡ s → IsAnswer l old r answer → Holds l.shape old r answer new
+    → reply ≡ reply_of answer → IsStep s r reply (record { library = l; keys = new })
+stepped l old new s r answer reply is answers holds replies =
+    let P : ServingState → Type 0 = λ s. IsStep s r reply (record { library = l; keys = new }) in
+    subst P is (record { answer = answer; answers = answers; holds = holds; is = replies; library_kept = refl })
+
 -- a step whose reply has no memory is one that answers want of memory
-pub step_without_memory : (l : Parts) (old new : Option Keys) (r : Request) (answer : Answer) → IsAnswer l old r answer → Holds l.shape old r answer new
-    → (IsEmptyDone answer → ⊥) → IsStep (record { library = l; keys = old }) r (reply_of OutOfMemory) (record { library = l; keys = new })
-step_without_memory l old new r answer is holds some = record {
-  answer = OutOfMemory;
-  answers = tt;
-  holds = keys_left l old new r answer is holds some;
-  is = refl;
-  library_kept = refl;
-}
+pub step_without_memory : (l : Parts) (old new : Option Keys) (s : ServingState) (r : Request) (answer : Answer) (reply : Reply) → record { library = l; keys = old } ≡ s → IsAnswer l old r answer → Holds l.shape old r answer new
+    → (IsEmptyDone answer → ⊥) → reply ≡ reply_of OutOfMemory → IsStep s r reply (record { library = l; keys = new })
+step_without_memory l old new s r answer reply is answers holds some replies =
+    stepped l old new s r OutOfMemory reply is tt (keys_left l old new r answer answers holds some) replies
+
+-- a new session over the library
+pub serves_library : (library : Parts) (s t : ServingState) (left left_new put put_new : Option (List ℕ)) (requests : ℕ) (ended : Ended) → s ≡ fresh library
+    → IfSome left (λ input. IfSome put (λ before. Serving s t input left_new before put_new requests ended))
+    → IfSome left (λ input. IfSome put (λ before. ServesLibrary library input left_new before put_new requests ended))
+serves_library library s t None left_new put put_new requests ended is serves = tt
+serves_library library s t (Some input) left_new None put_new requests ended is serves = tt
+serves_library library s t (Some input) left_new (Some before) put_new requests ended is serves =
+    let P : ServingState → Type 0 = λ s. Serving s t input left_new before put_new requests ended in
+    record { last = t; serves = subst P is serves }

@@ -1,8 +1,7 @@
 -- How a command ends, by the causes of its steps.
 use Rattle.std.proofs.Common.{◌≡◌, ◌≢◌, ◌≤◌, ◌⊎◌, ℕ, List, Option, Some, None, Ok, Err, refl, sym, ap, subst, ◌∙◌, inl, inr, arith}
-use Rattle.std.specs.Prelude.{Result, IsErr, IsOk, Bool, true, false, ◌==◌, if◌then◌else◌}
+use Rattle.std.specs.Prelude.{Result, IsOk, Bool, true, false, ◌==◌, if◌then◌else◌}
 use mathlib.Core.Bool.{true≢false}
-use Rattle.rand_core.specs.Stream.{Stream}
 use Rattle.co_link.specs.Causes.{Rose}
 use Rattle.co_link.specs.Files.{Folder, file_at, IsLonger}
 use Rattle.co_link.specs.declared.files.FileKind.TheVariants.{Read, Write}
@@ -23,48 +22,50 @@ use Rattle.co_client.specs.declared.fault.SearchFault.{SearchFault}
 use Rattle.co_client.specs.declared.fault.SearchFault.TheVariants as searching
 use Rattle.coeus.proofs.Outcomes.{differ, same_value}
 use Rattle.coeus.proofs.Searching.{local_due, local_placed}
+use Rattle.coeus.proofs.Serves.{serve_due}
+use Rattle.coeus.proofs.Remotes.{search_due, search_placed}
 use Rattle.coeus.specs.declared.limits.TheConstants.{MAX_CORPUS}
 use Rattle.coeus.specs.declared.refusals.Refusal.{Refusal}
-use Rattle.coeus.specs.declared.refusals.Refusal.TheVariants.{Corpus, CorpusTooLong, Publish, Test, Keywords, Search, File, Output, Memory}
-use Rattle.coeus.specs.Words.{Spoken, SpokenPlain, SpokenImport, SpokenShape, SpokenLocal, SpokenWrong, PlainWords, ImportWords, spoken}
+use Rattle.coeus.specs.declared.refusals.Refusal.TheVariants.{Corpus, CorpusTooLong, Publish, Test, Keywords, Search, Dial, Port, File, Output, Memory}
+use Rattle.coeus.specs.Words.{Spoken, SpokenPlain, SpokenImport, SpokenShape, SpokenLocal, SpokenServe, SpokenSearch, SpokenWrong, PlainWords, ImportWords, spoken}
 use Rattle.coeus.specs.Outside.{Outside, FilesState, SinkState, HasNoFault}
 use Rattle.coeus.specs.Refusals.{status_of, status_of_publishing, status_of_search, text_of, Says}
 use Rattle.coeus.specs.Searches.{HasCorpus, IsToldCorpus, ReadCause, TextCause, CanBeSearched}
 use Rattle.coeus.specs.Imports.{CanBeImported}
 use Rattle.coeus.specs.ShapeLines.{status_of_test}
-use Rattle.coeus.specs.Runs.{Keeps, Draws, Due, Answered, RefusedBy, Ran}
+use Rattle.coeus.specs.Runs.{Keeps, Uses, Due, Answered, RefusedBy, Ran}
 
 -- ---- refusals of the steps
 
 -- that the corpus of this name isn't read is a refusal of the command
 abbrev pub RefusesUnread : Spoken → List ℕ → Type 0
 RefusesUnread command name = (was is : Outside) (refusal : Refusal) → ReadCause name was.files is.files refusal
-    → is.out.bytes ≡ was.out.bytes → is.files.held ≡ was.files.held → is.random ≡ was.random → RefusedBy command was is refusal
+    → is.out.bytes ≡ was.out.bytes → is.files.held ≡ was.files.held → is.devices ≡ was.devices → RefusedBy command was is refusal
 
 pub plain_unread : (p : PlainWords) → RefusesUnread (SpokenPlain p) p.corpus
-plain_unread p was is (Corpus fault) cause out files draws = record { cause = cause; out = out; files = files; draws = draws }
-plain_unread p was is CorpusTooLong cause out files draws = record { cause = cause; out = out; files = files; draws = draws }
-plain_unread p was is (File Read) cause out files draws = record { cause = cause; out = out; files = files; draws = draws }
-plain_unread p was is Memory cause out files draws = record { cause = cause; out = out; files = files; draws = draws }
-plain_unread p was is refusal cause out files draws = absurd cause
+plain_unread p was is (Corpus fault) cause out files uses = record { cause = cause; out = out; files = files; uses = uses }
+plain_unread p was is CorpusTooLong cause out files uses = record { cause = cause; out = out; files = files; uses = uses }
+plain_unread p was is (File Read) cause out files uses = record { cause = cause; out = out; files = files; uses = uses }
+plain_unread p was is Memory cause out files uses = record { cause = cause; out = out; files = files; uses = uses }
+plain_unread p was is refusal cause out files uses = absurd cause
 
 pub import_unread : (i : ImportWords) → RefusesUnread (SpokenImport i) i.corpus
-import_unread i was is (Corpus fault) cause out files draws = record { cause = cause; out = out; files = files; draws = draws }
-import_unread i was is CorpusTooLong cause out files draws = record { cause = cause; out = out; files = files; draws = draws }
-import_unread i was is (File Read) cause out files draws = record { cause = cause; out = out; files = files; draws = draws }
-import_unread i was is Memory cause out files draws = record { cause = cause; out = out; files = files; draws = draws }
-import_unread i was is refusal cause out files draws = absurd cause
+import_unread i was is (Corpus fault) cause out files uses = record { cause = cause; out = out; files = files; uses = uses }
+import_unread i was is CorpusTooLong cause out files uses = record { cause = cause; out = out; files = files; uses = uses }
+import_unread i was is (File Read) cause out files uses = record { cause = cause; out = out; files = files; uses = uses }
+import_unread i was is Memory cause out files uses = record { cause = cause; out = out; files = files; uses = uses }
+import_unread i was is refusal cause out files uses = absurd cause
 
 -- a corpus that is read has no answer
 pub plain_unfound : (p : PlainWords) (was is : Outside) (documents : List Document) (refusal : Refusal)
     → HasCorpus was.files.held p.corpus documents → TextCause p refusal
-    → is.out.bytes ≡ was.out.bytes → is.files.held ≡ was.files.held → is.random ≡ was.random → RefusedBy (SpokenPlain p) was is refusal
-plain_unfound p was is documents (Publish (publishing.Setting which)) corpus cause out files draws =
-    record { cause = record { documents = documents; corpus = corpus; cause = cause }; out = out; files = files; draws = draws }
-plain_unfound p was is documents (Keywords number) corpus cause out files draws =
-    record { cause = record { documents = documents; corpus = corpus; cause = cause }; out = out; files = files; draws = draws }
-plain_unfound p was is documents Memory corpus cause out files draws = record { cause = tt; out = out; files = files; draws = draws }
-plain_unfound p was is documents refusal corpus cause out files draws = absurd cause
+    → is.out.bytes ≡ was.out.bytes → is.files.held ≡ was.files.held → is.devices ≡ was.devices → RefusedBy (SpokenPlain p) was is refusal
+plain_unfound p was is documents (Publish (publishing.Setting which)) corpus cause out files uses =
+    record { cause = record { documents = documents; corpus = corpus; cause = cause }; out = out; files = files; uses = uses }
+plain_unfound p was is documents (Keywords number) corpus cause out files uses =
+    record { cause = record { documents = documents; corpus = corpus; cause = cause }; out = out; files = files; uses = uses }
+plain_unfound p was is documents Memory corpus cause out files uses = record { cause = tt; out = out; files = files; uses = uses }
+plain_unfound p was is documents refusal corpus cause out files uses = absurd cause
 
 -- ---- the status that is due
 
@@ -132,20 +133,24 @@ shape_due s was is Output kept r = absurd (kept.out r.took.rose)
 shape_due s was is (Test fault) kept r = inl (ap status_of_test (sym r.cause))
 shape_due s was is refusal kept r = inr (ap status_of r.cause)
 
-pub due_answered : (command : Spoken) (was is : Outside) → Answered command was is → (due : ℕ) → Due command was.files.held due → 0 ≡ due
+pub due_answered : (command : Spoken) (was is : Outside) → Answered command was is → (due : ℕ) → Due command was is due → 0 ≡ due
 due_answered (SpokenPlain p) was is a due d = sym d.1
 due_answered (SpokenImport i) was is a due d = sym d.1
 due_answered (SpokenShape s) was is a due d = sym (d ∙ passed (test_of s) a.passes)
 due_answered (SpokenLocal p) was is a due d = sym (local_placed p was is a due d)
+due_answered (SpokenServe p) was is a due d = sym d.1
+due_answered (SpokenSearch p) was is a due d = sym (search_placed p was is a due d)
 due_answered SpokenWrong was is a due d = absurd a.prints
 
 pub due_refused : (command : Spoken) (was is : Outside) (refusal : Refusal) → HasNoFault was is → RefusedBy command was is refusal
-    → (due : ℕ) → Due command was.files.held due → (status_of refusal ≡ due) ⊎ (status_of refusal ≡ 10)
+    → (due : ℕ) → Due command was is due → (status_of refusal ≡ due) ⊎ (status_of refusal ≡ 10)
 due_refused (SpokenPlain p) was is refusal kept r due d = inr (plain_due p was is refusal kept r d.0)
 due_refused (SpokenImport i) was is refusal kept r due d = inr (import_due i was is refusal kept r d.0)
 due_refused (SpokenShape s) was is refusal kept r due d =
     subst (λ (n : ℕ). (status_of refusal ≡ n) ⊎ (status_of refusal ≡ 10)) (sym d) (shape_due s was is refusal kept r)
 due_refused (SpokenLocal p) was is refusal kept r due d = local_due p was is refusal kept r due d
+due_refused (SpokenServe p) was is refusal kept r due d = inr (serve_due p was is refusal kept r d.0)
+due_refused (SpokenSearch p) was is refusal kept r due d = search_due p was is refusal kept r due d
 due_refused SpokenWrong was is Output kept r due d = absurd (kept.out r.took.rose)
 due_refused SpokenWrong was is refusal kept r due d = inl (ap status_of r.cause ∙ sym d)
 
@@ -157,6 +162,8 @@ keeps_all (SpokenImport i) was is same = λ name differs. ap (λ (h : Option Fol
 keeps_all (SpokenPlain p) was is same = same
 keeps_all (SpokenShape s) was is same = same
 keeps_all (SpokenLocal p) was is same = same
+keeps_all (SpokenServe p) was is same = same
+keeps_all (SpokenSearch p) was is same = same
 keeps_all SpokenWrong was is same = same
 
 refused_keeps : (command : Spoken) (was is : Outside) (refusal : Refusal) → RefusedBy command was is refusal → Keeps command was.files.held is.files.held
@@ -164,9 +171,9 @@ refused_keeps command was is Output r = r.keeps
 refused_keeps command was is (File Write) r = r.files
 refused_keeps command was is refusal r = keeps_all command was.files.held is.files.held r.files
 
-refused_draws : (command : Spoken) (was is : Outside) (refusal : Refusal) → RefusedBy command was is refusal → Draws command was.random is.random
-refused_draws command was is Output r = r.draws
-refused_draws command was is refusal r = r.draws
+refused_uses : (command : Spoken) (was is : Outside) (refusal : Refusal) → RefusedBy command was is refusal → Uses command was.devices is.devices
+refused_uses command was is Output r = r.uses
+refused_uses command was is refusal r = r.uses
 
 unchanged : (command : Spoken) (was is : Outside) (refusal : Refusal) → RefusedBy command was is refusal → status_of refusal ≢ 9 → is.files.held ≡ was.files.held
 unchanged command was is Output r other = absurd (other refl)
@@ -200,7 +207,7 @@ ran_answered words command was is err same a =
       refused = λ other. absurd (other refl);
       complete = λ kept due d. inl (due_answered (spoken words) was is answered due d);
       keeps = answered.keeps;
-      draws = answered.draws;
+      uses = answered.uses;
       unchanged = λ other nine. absurd (other refl);
     }
 
@@ -214,6 +221,6 @@ ran_refused words command was is err_was err_is refusal status same r status_is 
       refused = λ other. record { refusal = refusal; status_is = status_is; ended = ended; says = says };
       complete = λ kept due d. subst (λ (n : ℕ). (n ≡ due) ⊎ (n ≡ 10)) (sym status_is) (due_refused (spoken words) was is refusal kept ended due d);
       keeps = refused_keeps (spoken words) was is refusal ended;
-      draws = refused_draws (spoken words) was is refusal ended;
+      uses = refused_uses (spoken words) was is refusal ended;
       unchanged = λ other nine. unchanged (spoken words) was is refusal ended (λ e. nine (status_is ∙ e));
     }

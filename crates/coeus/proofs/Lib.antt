@@ -6,6 +6,9 @@ pub mod Importing
 pub mod Keywords
 pub mod Outcomes
 pub mod Rehearsing
+pub mod Remotes
 pub mod Rest
 pub mod Searching
+pub mod Serves
+pub mod Talks
 pub mod Telling

@@ -1,16 +1,15 @@
 -- What `local` leaves and says, from what its search gave.
-use Rattle.std.proofs.Common.{◌≡◌, ◌⊎◌, ◌<◌, ◌≤◌, ℕ, List, [], ◌∷◌, length, map, drop, Option, Some, None, Ok, Err, refl, sym, ap, subst, ◌∙◌, inl, inr, arith}
+use Rattle.std.proofs.Common.{◌≡◌, ◌⊎◌, ◌<◌, ℕ, List, [], ◌∷◌, length, Option, Some, None, Ok, Err, refl, sym, ap, subst, ◌∙◌, inl, inr, arith}
 use Rattle.std.specs.Prelude.{Result, IsSome, IfOk, IfErr}
 use Rattle.std.proofs.lemmas.List.{length-map}
 use Rattle.rand_core.specs.Stream.{Stream}
 use Rattle.co_link.specs.Causes.{Rose}
 use Rattle.co_link.specs.Files.{Folder, file_at, IsLonger}
-use Rattle.co_link.specs.declared.files.FileKind.TheVariants.{Read, Write}
+use Rattle.co_link.specs.declared.files.FileKind.TheVariants.{Read}
 use Rattle.co_link.specs.declared.messages.Exchange.{Exchange}
 use Rattle.co_noise.specs.Shapes.{Numbers}
 use Rattle.co_noise.specs.Bounds.{test_of}
-use Rattle.co_noise.specs.declared.testing.TestFault.{TestFault}
-use Rattle.co_text.specs.Terms.{terms, distinct}
+use Rattle.co_text.specs.Terms.{terms}
 use Rattle.co_text.specs.declared.found.Found.{Found}
 use Rattle.co_text.specs.declared.ranks.Ranked.{Ranked}
 use Rattle.co_corpus.specs.declared.documents.Document.{Document}
@@ -38,7 +37,7 @@ use Rattle.coeus.specs.Outside.{Outside, FilesState, HasNoFault}
 use Rattle.coeus.specs.Refusals.{status_of, status_of_refused}
 use Rattle.coeus.specs.Imports.{HasImport}
 use Rattle.coeus.specs.Locals.{HasLibraryFile, CanBeServed, OpenCause, search_for, IsSearched, Searched, HasFound, FindCause, LocalAnswer, LocalCause, LocalDue}
-use Rattle.coeus.specs.Runs.{Answered, RefusedBy}
+use Rattle.coeus.specs.Runs.{Uses, Answered, RefusedBy}
 use Rattle.coeus.proofs.Drawing.{is_drawn}
 use Rattle.coeus.proofs.Outcomes.{differ, same_value}
 
@@ -48,7 +47,7 @@ same_bytes : (a b : List ℕ) → Some (Some a) ≡ Some (Some b) → a ≡ b
 same_bytes a b same = cc
 
 -- the bytes of a file are those that the files tell
-told_bytes : (held : Option Folder) (name bytes told : List ℕ) → (IsSome held → file_at held name ≡ Some (Some bytes)) → file_at held name ≡ Some (Some told)
+pub told_bytes : (held : Option Folder) (name bytes told : List ℕ) → (IsSome held → file_at held name ≡ Some (Some bytes)) → file_at held name ≡ Some (Some told)
     → bytes ≡ told
 told_bytes None name bytes told stands is = let none : None ≡ Some (Some told) = is in absurd cc
 told_bytes (Some folder) name bytes told stands is = same_bytes bytes told (sym (stands refl) ∙ is)
@@ -94,7 +93,7 @@ searched_over p library was is result text before now same new good honest plann
     let reads = subst (λ (t : List ℕ). IfOk result (IsRead (for_text t p.pick was) now)) same (read now all) in
     let refuses = subst (λ (t : List ℕ). IfErr result (IsCause (for_text t p.pick was) now)) same (refused now all) in
     let asks : (s : Numbers) (ts : List (List ℕ)) → Publishes now s ts → test_of s ≡ Ok s → Asks (search_for p was) now s ts result is =
-        λ s ts publishes passes. subst (λ (t : List ℕ). Asks (for_text t p.pick was) now s ts result is) same (asked now all s ts publishes passes) in
+    λ s ts publishes passes. subst (λ (t : List ℕ). Asks (for_text t p.pick was) now s ts result is) same (asked now all s ts publishes passes) in
     record {
       exchanges = now;
       honest = honest;
@@ -178,15 +177,15 @@ pub found_text : (p : LocalWords) (held : Option Folder) (was is : Stream) (libr
 found_text p held was is library text served h =
     record { found = h.found; searched = in_file p held was is (Ok h.found) library served h.search; text_is = h.text_is }
 
-pub local_refused : (p : LocalWords) (was is : Outside) (refusal : Refusal) → LocalCause p was.files is.files was.random is.random refusal
-    → is.out.bytes ≡ was.out.bytes → is.files.held ≡ was.files.held → RefusedBy (SpokenLocal p) was is refusal
-local_refused p was is (Library place) cause out files = record { cause = cause; out = out; files = files; draws = tt }
-local_refused p was is LibraryTooLong cause out files = record { cause = cause; out = out; files = files; draws = tt }
-local_refused p was is (Test fault) cause out files = record { cause = cause; out = out; files = files; draws = tt }
-local_refused p was is (Unsearched fault) cause out files = record { cause = cause; out = out; files = files; draws = tt }
-local_refused p was is (File Read) cause out files = record { cause = cause; out = out; files = files; draws = tt }
-local_refused p was is Memory cause out files = record { cause = cause; out = out; files = files; draws = tt }
-local_refused p was is refusal cause out files = absurd cause
+pub local_refused : (p : LocalWords) (was is : Outside) (refusal : Refusal) → LocalCause p was.files is.files was.devices.random is.devices.random refusal
+    → Uses (SpokenLocal p) was.devices is.devices → is.out.bytes ≡ was.out.bytes → is.files.held ≡ was.files.held → RefusedBy (SpokenLocal p) was is refusal
+local_refused p was is (Library place) cause uses out files = record { cause = cause; out = out; files = files; uses = uses }
+local_refused p was is LibraryTooLong cause uses out files = record { cause = cause; out = out; files = files; uses = uses }
+local_refused p was is (Test fault) cause uses out files = record { cause = cause; out = out; files = files; uses = uses }
+local_refused p was is (Unsearched fault) cause uses out files = record { cause = cause; out = out; files = files; uses = uses }
+local_refused p was is (File Read) cause uses out files = record { cause = cause; out = out; files = files; uses = uses }
+local_refused p was is Memory cause uses out files = record { cause = cause; out = out; files = files; uses = uses }
+local_refused p was is refusal cause uses out files = absurd cause
 
 -- ---- the status that is due
 
@@ -211,7 +210,7 @@ open_due name was is documents settings library Memory i passes kept cause = ref
 open_due name was is documents settings library refusal i passes kept cause = absurd cause
 
 -- no placement where the hits can be placed
-misplaced : (s : Numbers) (documents buckets : List ℕ) (hits : List Ranked) → IsUnplaced s hits documents buckets → CanBePlaced s hits → ⊥
+pub misplaced : (s : Numbers) (documents buckets : List ℕ) (hits : List Ranked) → IsUnplaced s hits documents buckets → CanBePlaced s hits → ⊥
 misplaced s documents buckets hits u c =
     refuses (choices_of s hits) u.ranks buckets c.choices u.witness
     (subst (λ (n : ℕ). IsAssignment (choices_of s hits) n c.choices) (sym (length-map hits _)) c.assigns)
@@ -233,6 +232,6 @@ pub local_due : (p : LocalWords) (was is : Outside) (refusal : Refusal) → HasN
     → (due : ℕ) → LocalDue p was.files.held due → (status_of refusal ≡ due) ⊎ (status_of refusal ≡ 10)
 local_due p was is Output kept r due d = absurd (kept.out r.took.rose)
 local_due p was is (Unsearched fault) kept r due d =
-    let s = searched p was.files is.files was.random is.random fault r.cause in
-    search_due p was.files.held was.random s.search.exchanges fault due d (s.plain d.documents d.settings d.library d.file) s.search.refused
+    let s = searched p was.files is.files was.devices.random is.devices.random fault r.cause in
+    search_due p was.files.held was.devices.random s.search.exchanges fault due d (s.plain d.documents d.settings d.library d.file) s.search.refused
 local_due p was is refusal kept r due d = inr (open_due p.library was.files is.files d.documents d.settings d.library refusal d.file d.passes kept.files r.cause)

@@ -7,7 +7,6 @@ use Rattle.co_link.specs.Causes.{Rose}
 use Rattle.co_link.specs.Held.{Appends, TookWhole}
 use Rattle.co_link.specs.declared.sink.Failed.{Failed}
 use Rattle.coeus.specs.Outside.{SinkState}
-use Rattle.coeus.specs.Words.{spaced}
 use Rattle.coeus.specs.Refusals.{flat, numbers_text, Says}
 
 -- no piece

@@ -68,13 +68,14 @@ pub record IsWithinRanges (l : LocalCommand) : Type 0 where
   pub least_workers : 1 ≤ l.workers
   pub most_workers : l.workers ≤ 64
 
--- the workers that serve a library are 1 to 64
-pub record IsWithinWorkers (s : ServeCommand) : Type 0 where
-  pub least : 1 ≤ s.workers
-  pub most : s.workers ≤ 64
+-- a library is served on at least one connection, by 1 to 64 workers
+pub record IsWithinServing (s : ServeCommand) : Type 0 where
+  pub least_connections : 1 ≤ s.connections
+  pub least_workers : 1 ≤ s.workers
+  pub most_workers : s.workers ≤ 64
 
 -- the pick of a search over a dial is 1 to 64
-pub record IsWithinPicks (s : SearchCommand) : Type 0 where
+pub record IsWithinSearching (s : SearchCommand) : Type 0 where
   pub least : 1 ≤ s.pick
   pub most : s.pick ≤ 64
 
@@ -89,7 +90,7 @@ AreWithinRanges (Plain p) = Unit {0}
 AreWithinRanges (Import i) = Unit {0}
 AreWithinRanges (Shape s) = Unit {0}
 AreWithinRanges (Local l) = IsWithinRanges l
-AreWithinRanges (Serve s) = IsWithinWorkers s
-AreWithinRanges (Search s) = IsWithinPicks s
+AreWithinRanges (Serve s) = IsWithinServing s
+AreWithinRanges (Search s) = IsWithinSearching s
 AreWithinRanges (Rehearse r) = IsWithinRehearsals r
 AreWithinRanges Wrong = Unit {0}

@@ -1,5 +1,5 @@
 -- The command `local`: what it prints, and when it refuses.
-use Rattle.std.specs.Prelude.{◌≡◌, ◌≤◌, ◌⊎◌, ℕ, List, length, Option, Some, None, IsSome, Result, Ok, Err, IfOk, IfErr}
+use Rattle.std.specs.Prelude.{◌≡◌, ◌≤◌, ℕ, List, length, Option, None, IsSome, Result, Ok, Err, IfOk, IfErr}
 use Rattle.rand_core.specs.Stream.{Stream}
 use Rattle.co_link.specs.Files.{Folder, file_at, IsLonger}
 use Rattle.co_link.specs.declared.files.FileKind.TheVariants.{Read}

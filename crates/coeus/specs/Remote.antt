@@ -1,5 +1,5 @@
 -- The command `search`: what it prints, and when it refuses.
-use Rattle.std.specs.Prelude.{◌≡◌, ◌≤◌, ℕ, List, length, Option, Some, IsSome, IsSomeAnd, Result, Ok, Err, IfErr}
+use Rattle.std.specs.Prelude.{◌≡◌, ◌≤◌, ℕ, List, length, Option, Some, IsSome, IfSome, Result, Ok, Err, IfErr}
 use Rattle.co_link.specs.Causes.{Rose}
 use Rattle.co_link.specs.Exchanges.{DialCall, IsDialled, Clears}
 use Rattle.co_link.specs.declared.link.LinkFault.TheVariants.{Failed}
@@ -16,11 +16,12 @@ use Rattle.co_rounds.specs.Honest.{AreHonest}
 use Rattle.co_rounds.specs.Placing.{CanBePlaced}
 use Rattle.co_rounds.specs.Recording.{IsLibraryFor}
 use Rattle.co_client.specs.Causes.{Search, IsCauseUntold}
+use Rattle.co_client.specs.Faults.{IsForFew}
 use Rattle.co_client.specs.Telling.{Tells}
 use Rattle.co_client.specs.Plain.{AnswersPlainly, plain_hits}
 use Rattle.co_client.specs.declared.fault.SearchFault.{SearchFault}
 use Rattle.coeus.specs.Words.{SearchWords, joined}
-use Rattle.coeus.specs.Outside.{Outside, DialState}
+use Rattle.coeus.specs.Outside.{Devices, DialState}
 use Rattle.coeus.specs.Searches.{query_of}
 use Rattle.coeus.specs.declared.refusals.Refusal.{Refusal}
 use Rattle.coeus.specs.declared.refusals.Refusal.TheVariants as refusals
@@ -37,33 +38,33 @@ pub data DialsOnce (p : SearchWords) (was is : DialState) : Type 0 where
   dialled : Dialled p was is → DialsOnce p was is
 
 -- the dial failed: no word was drawn, and nothing was asked
-pub record DialFails (p : SearchWords) (was is : Outside) : Type 0 where
-  pub dialled : Dialled p was.devices.dial is.devices.dial
-  pub rose : Rose was.devices.dial.faults is.devices.dial.faults
-  pub exchanges : Clears was.devices.dial.exchanges is.devices.dial.exchanges (Err Failed)
-  pub last_failed : is.devices.dial.last_failed ≡ was.devices.dial.last_failed
-  pub random : is.devices.random ≡ was.devices.random
+pub record DialFails (p : SearchWords) (was is : Devices) : Type 0 where
+  pub dialled : Dialled p was.dial is.dial
+  pub rose : Rose was.dial.faults is.dial.faults
+  pub exchanges : Clears was.dial.exchanges is.dial.exchanges (Err Failed)
+  pub last_failed : is.dial.last_failed ≡ was.dial.last_failed
+  pub random : is.random ≡ was.random
 
 -- ---- the search
 
 -- a search for the terms of the query words, over the dial
-abbrev pub search_over : SearchWords → Outside → Outside → Search
+abbrev pub search_over : SearchWords → Devices → Devices → Search
 search_over p was is = record {
   query = terms (joined p.query);
   pick = p.pick;
-  stream = was.devices.random;
-  before = was.devices.dial.faults;
-  now = is.devices.dial.faults;
-  last_failed = is.devices.dial.last_failed;
+  stream = was.random;
+  before = was.dial.faults;
+  now = is.dial.faults;
+  last_failed = is.dial.last_failed;
 }
 
 -- a search that made these exchanges has this result: number, order and lengths of its requests are
 -- planned by the published numbers, the requests are the drawn ones, and what it answers is read from
 -- the replies. Where they are honest to the library of a corpus, whatever keys its server held before,
 -- the result is the plain answer, exactly where the plain hits can be placed
-pub record IsSought (p : SearchWords) (was is : Outside) (result : Result Found SearchFault)
+pub record IsSought (p : SearchWords) (was is : Devices) (result : Result Found SearchFault)
     (exchanges : List Exchange) : Type 0 where
-  pub tells : Tells (search_over p was is) exchanges result is.devices.random
+  pub tells : Tells (search_over p was is) exchanges result is.random
   pub plain : (documents : List Document) (settings : Settings) (library : Parts)
       (held : Option (List ℕ)) → IsLibraryFor documents settings library
       → AreHonest library held exchanges
@@ -71,36 +72,37 @@ pub record IsSought (p : SearchWords) (was is : Outside) (result : Result Found 
 
 -- the one dial was answered, and a search over its link has this result; where the dial tells its
 -- exchanges, they are those of the search
-pub record Sought (p : SearchWords) (was is : Outside) (result : Result Found SearchFault)
+pub record Sought (p : SearchWords) (was is : Devices) (result : Result Found SearchFault)
     : Type 0 where
-  pub dialled : Dialled p was.devices.dial is.devices.dial
-  pub told : IsSome was.devices.dial.exchanges
-      → IsSomeAnd is.devices.dial.exchanges (IsSought p was is result)
+  pub dialled : Dialled p was.dial is.dial
+  pub tells : IsSome was.dial.exchanges → IsSome is.dial.exchanges
+  pub told : IfSome is.dial.exchanges (IsSought p was is result)
   pub untold : IfErr result (IsCauseUntold (search_over p was is))
+  pub few : IsForFew (length (query_of p.query)) result
 
 -- ---- the command
 
 -- the text of what is found
-pub record SearchAnswer (p : SearchWords) (was is : Outside) (text : List ℕ) : Type 0 where
+pub record SearchAnswer (p : SearchWords) (was is : Devices) (text : List ℕ) : Type 0 where
   pub found : Found
   pub sought : Sought p was is (Ok found)
   pub text_is : text ≡ printed found
 
 -- when `search` refuses, but by the output; want of memory has no cause
-abbrev pub SearchCause : SearchWords → Outside → Outside → Refusal → Type 0
+abbrev pub SearchCause : SearchWords → Devices → Devices → Refusal → Type 0
 SearchCause p was is refusals.Dial = DialFails p was is
 SearchCause p was is (refusals.Search fault) = Sought p was is (Err fault)
 SearchCause p was is refusals.Memory = Unit {0}
 SearchCause p was is refusal = ⊥
 
 -- what is found over the dial, or a refusal by its cause; the dial is made at most once
-abbrev pub Finds : SearchWords → Outside → Outside → Result Found Refusal → Type 0
+abbrev pub Finds : SearchWords → Devices → Devices → Result Found Refusal → Type 0
 Finds p was is (Ok found) = Sought p was is (Ok found)
 Finds p was is (Err refusal) = SearchCause p was is refusal
 
-pub record Asked (p : SearchWords) (was is : Outside) (result : Result Found Refusal) : Type 0 where
+pub record Asked (p : SearchWords) (was is : Devices) (result : Result Found Refusal) : Type 0 where
   pub finds : Finds p was is result
-  pub dials : DialsOnce p was.devices.dial is.devices.dial
+  pub dials : DialsOnce p was.dial is.dial
 
 -- the status of a search that can be answered: the dial tells exchanges that are honest to the library
 -- of a corpus, the published numbers pass the test, and the query has few terms. It is 0 where the

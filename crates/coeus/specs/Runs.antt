@@ -26,7 +26,7 @@ Prints (SpokenShape s) was is text = text ≡ shape_text s
 Prints (SpokenLocal p) was is text =
     LocalAnswer p was.files.held was.devices.random is.devices.random text
 Prints (SpokenServe p) was is text = ServeAnswer p was is text
-Prints (SpokenSearch p) was is text = SearchAnswer p was is text
+Prints (SpokenSearch p) was is text = SearchAnswer p was.devices is.devices text
 Prints (SpokenRehearse p) was is text =
     RehearseAnswer p was.devices.random is.devices.random text
 Prints SpokenWrong was is text = ⊥
@@ -51,7 +51,7 @@ Cause (SpokenShape s) was is refusal = refusal ≡ refusals.Memory
 Cause (SpokenLocal p) was is refusal =
     LocalCause p was.files is.files was.devices.random is.devices.random refusal
 Cause (SpokenServe p) was is refusal = ServeCause p was is refusal
-Cause (SpokenSearch p) was is refusal = SearchCause p was is refusal
+Cause (SpokenSearch p) was is refusal = SearchCause p was.devices is.devices refusal
 Cause (SpokenRehearse p) was is refusal =
     RehearseCause p was.devices.random is.devices.random refusal
 Cause SpokenWrong was is refusal = refusal ≡ refusals.Words

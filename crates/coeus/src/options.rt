@@ -300,7 +300,8 @@ impl Options {
 
     /// The number of connections, 1 to 1000000, or else 1.
     pub fn connections(self) -> Option<u32>
-        ensures { result ≡ connections_of self }
+        ensures value { result ≡ connections_of self }
+        ensures within { IfSome result (λ number. (1 ≤ number) × (number ≤ 1000000)) }
     {
         within(self.connections, DEFAULT_CONNECTIONS, MAX_CONNECTIONS)
     }

@@ -1,8 +1,8 @@
 //! The command `search`: a search over a dial.
 ghost use Rattle.std.specs.Prelude.{◌≡◌, ◌≤◌, IfOk, IfErr};
 ghost use Rattle.coeus.specs.Words.{SpokenSearch};
-ghost use Rattle.coeus.specs.Commands.{search_shown, IsWithinPicks};
-ghost use Rattle.coeus.specs.Outside.{FilesState, PortState, SinkState, outside};
+ghost use Rattle.coeus.specs.Commands.{search_shown, IsWithinSearching};
+ghost use Rattle.coeus.specs.Outside.{FilesState, PortState, outside};
 ghost use Rattle.coeus.specs.Outside.{dial_state, sink_state, devices};
 ghost use Rattle.coeus.specs.Remote.{Asked};
 ghost use Rattle.coeus.specs.Runs.{Ended};
@@ -22,15 +22,14 @@ fn ask<D: Dial, R: Rng>(
     dial: &mut D,
     rng: &mut R,
 ) -> Result<Found, Refusal>
-    requires { IsWithinPicks command.now }
-    ensures { (files : FilesState) (port : PortState) (out : SinkState) →
+    requires { IsWithinSearching command.now }
+    ensures { (port : PortState) →
         let dial_was = dial_state (D.exchanges dial.old) (D.faults dial.old)
         (D.last_failed dial.old) (D.dials dial.old) (D.last_dial dial.old) in
         let dial_is = dial_state (D.exchanges dial.new) (D.faults dial.new)
         (D.last_failed dial.new) (D.dials dial.new) (D.last_dial dial.new) in
-        Asked (search_shown command.now)
-        (outside files (devices (R.stream rng.old) dial_was port) out)
-        (outside files (devices (R.stream rng.new) dial_is port) out) result }
+        Asked (search_shown command.now) (devices (R.stream rng.old) dial_was port)
+        (devices (R.stream rng.new) dial_is port) result }
 {
     let Ok(query) = join(alloc, command.query) else {
         return Err(Refusal::Memory);
@@ -54,7 +53,7 @@ pub fn search_remote<D: Dial, R: Rng, O: Sink>(
     rng: &mut R,
     out: &mut O,
 ) -> Result<(), Refusal>
-    requires { IsWithinPicks command.now }
+    requires { IsWithinSearching command.now }
     ensures { (files : FilesState) (port : PortState) →
         let dial_was = dial_state (D.exchanges dial.old) (D.faults dial.old)
         (D.last_failed dial.old) (D.dials dial.old) (D.last_dial dial.old) in

@@ -1,10 +1,9 @@
 //! The command `serve`: a library on connections, one after another.
 ghost use Rattle.std.specs.Prelude.{◌≡◌, ◌≤◌, ◌<◌, ◌+◌, ◌++◌, ◌^◌, length, true};
 ghost use Rattle.co_http.specs.ShortText.{text_of};
-ghost use Rattle.co_library.specs.Libraries.{Parts};
 ghost use Rattle.coeus.specs.Words.{SpokenServe};
-ghost use Rattle.coeus.specs.Commands.{serve_shown, IsWithinWorkers};
-ghost use Rattle.coeus.specs.Outside.{files_state, dial_state, port_state, sink_state};
+ghost use Rattle.coeus.specs.Commands.{serve_shown, IsWithinServing};
+ghost use Rattle.coeus.specs.Outside.{port_state, sink_state};
 ghost use Rattle.coeus.specs.Outside.{DialState, devices, outside_of};
 ghost use Rattle.coeus.specs.Connections.{end_text, connection_line};
 ghost use Rattle.coeus.specs.Served.{ServesNext, ServesSome};
@@ -134,7 +133,7 @@ pub fn serve<T: Threads + Sync, F: Files, P: Port, O: Sink>(
     port: &mut P,
     out: &mut O,
 ) -> Result<(), Refusal>
-    requires { IsWithinWorkers command.now }
+    requires { IsWithinServing command.now }
     ensures { (random : Stream) (dial : DialState) →
         let port_was = port_state (P.tells port.old) (P.Port.faults port.old) (P.left port.old)
         (P.put_so_far port.old) (P.Source.faults port.old) (P.Sink.faults port.old) in

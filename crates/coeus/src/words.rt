@@ -5,7 +5,7 @@ ghost use Rattle.coeus.specs.Words.{local_words, serve_words, search_words};
 ghost use Rattle.coeus.specs.Words.{rehearse_words, spoken, joined};
 ghost use Rattle.coeus.specs.Commands.{command_shown, plain_shown, import_shown, local_shown};
 ghost use Rattle.coeus.specs.Commands.{serve_shown, search_shown, rest_shown};
-ghost use Rattle.coeus.specs.Commands.{IsWithinRanges, IsWithinWorkers, IsWithinPicks};
+ghost use Rattle.coeus.specs.Commands.{IsWithinRanges, IsWithinServing, IsWithinSearching};
 ghost use Rattle.coeus.specs.Commands.{IsWithinRehearsals};
 ghost use Rattle.coeus.specs.Commands.{AreWithinRanges};
 
@@ -209,7 +209,7 @@ fn read_local(words: &[String]) -> Option<LocalCommand<'_>>
 // Reads LIBRARY and options.
 fn read_serve(words: &[String]) -> Option<ServeCommand<'_>>
     ensures value { option_map serve_shown result ≡ serve_words (map string_bytes words.now) }
-    ensures ranges { IfSome result IsWithinWorkers }
+    ensures ranges { IfSome result IsWithinServing }
 {
     let [library, rest @ ..] = words else {
         return None;
@@ -235,7 +235,7 @@ fn read_serve(words: &[String]) -> Option<ServeCommand<'_>>
 // Reads HOST, PORT, options, `--` and a query.
 fn read_search(words: &[String]) -> Option<SearchCommand<'_>>
     ensures value { option_map search_shown result ≡ search_words (map string_bytes words.now) }
-    ensures ranges { IfSome result IsWithinPicks }
+    ensures ranges { IfSome result IsWithinSearching }
 {
     let [host, port, rest @ ..] = words else {
         return None;

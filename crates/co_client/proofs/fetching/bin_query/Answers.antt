@@ -1,6 +1,6 @@
-use Rattle.std.proofs.Common.{◌≡◌, ◌∙◌, refl, arith, [], List}
+use Rattle.std.proofs.Common.{◌∙◌, refl, arith, []}
 use Rattle.co_rounds.specs.Asked.{row_message}
-use Rattle.co_client.proofs.Drawn.{IsDrawn, none-drawn, one-drawn}
+use Rattle.co_client.proofs.Drawn.{none-drawn, one-drawn}
 use Rattle.co_client.proofs.fetching.bin_query.Goals as goal
 
 pub returns-clause-body : goal.returns-clause-body

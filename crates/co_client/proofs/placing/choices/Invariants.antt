@@ -1,4 +1,4 @@
-use Rattle.std.proofs.Common.{◌≡◌, ◌++◌, ◌<◌, map, drop, length}
+use Rattle.std.proofs.Common.{◌≡◌, ◌++◌, ◌<◌, map, drop}
 use Rattle.std.specs.Prelude.{All}
 use Rattle.co_bucket.specs.Lists.{bucket_count, candidates_of}
 use Rattle.co_client.proofs.placing.choices.Given as goal

@@ -1,4 +1,4 @@
-use Rattle.std.proofs.Common.{◌≡◌, ◌<◌, get_or, map, Option, None}
+use Rattle.std.proofs.Common.{◌≡◌, ◌<◌, get_or, map, None}
 use Rattle.std.specs.Prelude.{All}
 use Rattle.std.specs.List.{range_with_len}
 use Rattle.co_bucket.specs.Bytes.{record_row}

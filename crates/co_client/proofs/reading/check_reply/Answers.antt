@@ -1,4 +1,4 @@
-use Rattle.std.proofs.Common.{◌≡◌, ◌≢◌, ℕ, ◌+◌, ◌*◌, ◌<◌, ◌≤◌, min, ◌∙◌, sym, ap, subst, refl, inl, inr, arith, List, length, take, drop}
+use Rattle.std.proofs.Common.{◌≡◌, ℕ, ◌+◌, ◌*◌, ◌≤◌, ◌∙◌, sym, ap, subst, refl, inr, arith, List, length}
 use Rattle.std.proofs.Math.Nat.{mul-le-mul_right}
 use Rattle.co_wire.specs.Bodies.{SpellsCiphers, IsFirstOutOfRange}
 use Rattle.co_client.proofs.Spelled.{none-spelled, one-spelled, all-spelled}

@@ -1,7 +1,6 @@
-use Rattle.std.proofs.Common.{◌≡◌, ℕ, ◌+◌, ◌*◌, ◌<◌, ◌≤◌, ◌∙◌, arith, List, [], ◌∷◌, length}
 use Rattle.co_bfv.specs.Totals.{ciphertext_at}
 use Rattle.co_client.proofs.Results.{ok-map, err-map}
-use Rattle.co_client.proofs.Opened.{at-bytes, at-whole, at-fault, at-within}
+use Rattle.co_client.proofs.Opened.{at-bytes, at-whole, at-fault, at-within, at-long}
 use Rattle.co_client.proofs.reading.open_at.Goals as goal
 
 pub returns-clause-bytes : goal.returns-clause-bytes
@@ -21,3 +20,6 @@ returns-clause-fault c =
 
 pub returns-clause-within : goal.returns-clause-within
 returns-clause-within c = at-within c.args.degree c.args.secret.now c.in-Ok.cipher c.open_reply.result c.in-Ok.ensures.degree c.open_reply.ensures.fault
+
+pub returns-clause-long : goal.returns-clause-long
+returns-clause-long c = at-long c.args.degree c.args.secret.now c.in-Ok.cipher c.open_reply.result c.in-Ok.ensures.degree c.open_reply.ensures.bytes

@@ -1,4 +1,4 @@
-use Rattle.std.proofs.Common.{◌≡◌, ℕ, ◌+◌, ◌-◌, ◌*◌, ◌<◌, ◌≤◌, ◌++◌, ◌∙◌, sym, ap, subst, arith, List, length}
+use Rattle.std.proofs.Common.{◌≡◌, ℕ, ◌+◌, ◌-◌, ◌*◌, ◌++◌, ◌∙◌, sym, ap, subst, arith, List}
 use Rattle.co_bfv.specs.Totals.{ciphertext_at}
 use Rattle.co_bfv.specs.Encryptions.{decrypted}
 use Rattle.co_slots.specs.Payloads.{IsPayload, IsFirstNoByte}

@@ -1,4 +1,4 @@
-use Rattle.std.proofs.Common.{◌≡◌, ℕ, ◌+◌, ◌*◌, ◌∙◌, sym, ap, subst, refl, arith, List, length, map}
+use Rattle.std.proofs.Common.{◌≡◌, ℕ, ◌*◌, ◌∙◌, ap, subst, arith, List, map}
 use Rattle.co_link.specs.declared.messages.Request.{Request}
 use Rattle.co_link.specs.declared.messages.Target.TheVariants.{Meta}
 use Rattle.co_bucket.specs.Lists.{bucket_count}
@@ -6,7 +6,7 @@ use Rattle.co_bucket.specs.Bytes.{record_chunks, record_row}
 use Rattle.co_rounds.specs.Answers.{reply_with}
 use Rattle.co_wire.specs.Lengths.{reply_size}
 use Rattle.co_client.specs.Openings.{AreSpelled, IsRefusedBody}
-use Rattle.co_client.specs.Rounds.{Comes, RoundFails, queries_request, record_messages, bin_messages}
+use Rattle.co_client.specs.Rounds.{Comes, RoundFails, queries_request, record_messages}
 use Rattle.co_client.proofs.Unanswered.{ask-round, body-round}
 use Rattle.co_client.proofs.recording.gather.Goals as goal
 

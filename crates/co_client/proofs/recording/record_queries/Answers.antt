@@ -1,4 +1,4 @@
-use Rattle.std.proofs.Common.{◌≡◌, ℕ, ◌+◌, ◌*◌, ◌<◌, ◌≤◌, ◌∙◌, sym, ap, subst, refl, arith, List, length, get_or, take, map}
+use Rattle.std.proofs.Common.{◌≡◌, ℕ, ◌∙◌, subst, refl, arith, List, get_or, take, map}
 use Rattle.std.proofs.lemmas.List.{take_all}
 use Rattle.co_bucket.specs.Bytes.{record_row}
 use Rattle.co_rounds.specs.Asked.{row_message}

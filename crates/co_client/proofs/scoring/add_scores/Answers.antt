@@ -1,4 +1,4 @@
-use Rattle.std.proofs.Common.{◌≡◌, ℕ, ◌-◌, ◌<◌, ◌≤◌, ◌++◌, min, ◌∙◌, ap, arith, List, length, take}
+use Rattle.std.proofs.Common.{◌≡◌, ℕ, ◌-◌, ◌++◌, min, ◌∙◌, ap, arith, List, length, take}
 use Rattle.std.proofs.lemmas.List.{take_all, take_min}
 use Rattle.co_client.proofs.scoring.add_scores.Goals as goal
 

@@ -1,4 +1,4 @@
-use Rattle.std.proofs.Common.{◌<◌, arith}
+use Rattle.std.proofs.Common.{arith}
 use Rattle.co_client.proofs.scoring.fill_slots.Goals as goal
 
 pub returns-clause-slots : goal.returns-clause-slots

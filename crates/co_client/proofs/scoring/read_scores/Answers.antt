@@ -1,6 +1,5 @@
-use Rattle.std.proofs.Common.{rules, ◌≡◌, ℕ, ◌+◌, ◌*◌, ◌<◌, ◌≤◌, ◌∙◌, sym, ap, subst, refl, arith, List, length}
-use Rattle.co_math.proofs.Degrees.{degree_positive}
-use Rattle.co_noise.specs.Shapes.{Numbers, document_blocks}
+use Rattle.std.proofs.Common.{rules, ◌≡◌, ◌<◌, ◌∙◌, ap, arith}
+use Rattle.co_noise.specs.Shapes.{document_blocks}
 use Rattle.co_client.proofs.Scores.{none-scored, one-scored, all-scored}
 use Rattle.co_client.proofs.scoring.read_scores.Goals as goal
 

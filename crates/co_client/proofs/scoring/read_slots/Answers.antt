@@ -1,4 +1,4 @@
-use Rattle.std.proofs.Common.{◌≡◌, ℕ, ◌<◌, ◌∙◌, sym, ap, subst, arith, List, length, get_or}
+use Rattle.std.proofs.Common.{◌≡◌, ℕ, ◌∙◌, ap, subst, arith, List}
 use Rattle.co_slots.specs.Slots.{slot}
 use Rattle.co_bfv.specs.Totals.{ciphertext_at}
 use Rattle.co_wire.specs.Bodies.{SpellsCiphers}

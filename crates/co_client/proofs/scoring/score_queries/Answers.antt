@@ -1,5 +1,5 @@
-use Rattle.std.proofs.Common.{rules, ◌≡◌, ℕ, ◌+◌, ◌*◌, ◌<◌, ◌≤◌, ◌∙◌, sym, ap, subst, refl, arith, List, length}
-use Rattle.co_noise.specs.Shapes.{Numbers, keyword_blocks}
+use Rattle.std.proofs.Common.{rules, ◌≡◌, ℕ, ◌∙◌, ap, subst, refl, arith}
+use Rattle.co_noise.specs.Shapes.{keyword_blocks}
 use Rattle.co_matvec.specs.Replies.{HasSlots}
 use Rattle.co_matvec.specs.Weights.{keyword_slot}
 use Rattle.co_client.proofs.Drawn.{none-asked, one-asked, all-asked}

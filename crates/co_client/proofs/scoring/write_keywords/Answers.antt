@@ -1,4 +1,4 @@
-use Rattle.std.proofs.Common.{rules, ◌≡◌, ℕ, ◌<◌, ◌∙◌, sym, ap, subst, arith, length, List, get_or}
+use Rattle.std.proofs.Common.{◌≡◌, ℕ, ◌∙◌, sym, ap, arith, length}
 use Rattle.co_matvec.specs.Weights.{keyword_slot}
 use Rattle.co_client.proofs.scoring.write_keywords.Goals as goal
 

@@ -1,9 +1,7 @@
 use Rattle.co_client.proofs.Told.{told-at}
 use Rattle.co_client.proofs.Trails.{made-extends}
 use Rattle.co_client.proofs.Tells_plainly.{tells_plainly}
-use Rattle.co_client.proofs.Finishes.{found-told}
-use Rattle.co_client.proofs.Unanswered.{ask-round, fails-as}
-use Rattle.co_client.proofs.Scores.{one-scored}
+use Rattle.co_client.proofs.Conducted.{untold-of}
 use Rattle.co_client.proofs.searching.search.Goals as goal
 
 pub returns-clause-plain : goal.returns-clause-plain
@@ -21,6 +19,12 @@ returns-clause-read g c = λ es e. (told-at _ _ _ _ _ c.conduct.ensures.told es 
 
 pub returns-clause-refused : goal.returns-clause-refused
 returns-clause-refused g c = λ es e. (told-at _ _ _ _ _ c.conduct.ensures.told es e).refused
+
+pub returns-clause-untold : goal.returns-clause-untold
+returns-clause-untold g c = untold-of _ _ _ _ _ c.conduct.ensures.told
+
+pub returns-clause-few : goal.returns-clause-few
+returns-clause-few g c = c.conduct.ensures.told.tells.few
 
 pub returns-clause-asked : goal.returns-clause-asked
 returns-clause-asked g c = λ es e. (told-at _ _ _ _ _ c.conduct.ensures.told es e).asked

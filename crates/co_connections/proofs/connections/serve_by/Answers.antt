@@ -1,6 +1,5 @@
-use Rattle.std.proofs.Common.{◌+◌, ◌<◌, ◌≤◌, ◌∙◌, ℕ, List, Ok, Err, Some, None, sym, ap, subst, arith}
+use Rattle.std.proofs.Common.{◌+◌, ◌≤◌, ◌∙◌, Ok, Err, Some, None, sym, ap, subst, arith}
 use Rattle.std.specs.Prelude.{IfSome}
-use Rattle.co_http.specs.Conn.{unread}
 use Rattle.co_serving.specs.declared.ended.Ended.{Ended}
 use Rattle.co_serving.specs.Conversation.{Serves}
 use Rattle.co_serving.proofs.ServingLemmas.{told_turns}

@@ -1,4 +1,4 @@
-use Rattle.std.proofs.Common.{List, None, ap, sym, subst, ◌∙◌}
+use Rattle.std.proofs.Common.{None, ap, subst, ◌∙◌}
 use Rattle.co_library.specs.Libraries.{Parts}
 use Rattle.co_rounds.specs.Honest.{AreHonest}
 use Rattle.coeus.specs.Commands.{local_shown}

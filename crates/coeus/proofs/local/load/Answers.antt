@@ -1,4 +1,4 @@
-use Rattle.std.proofs.Common.{◌≡◌, Ok, sym, ap, ◌∙◌}
+use Rattle.std.proofs.Common.{sym, ap, ◌∙◌}
 use Rattle.co_noise.specs.Bounds.{test_of}
 use Rattle.co_noise.proofs.Room.{test_of-same}
 use Rattle.coeus.proofs.local.load.Goals as goal

@@ -7,7 +7,7 @@ use Rattle.coeus.proofs.publish.import.Goals as goal
 pub returns-in-Err-Failed : goal.returns-in-Err-Failed
 returns-in-Err-Failed g c =
     let failed = c.in-Err-Failed.ensures.cause.failed (ap Err c.in-Err-Failed.field-0-is) in
-    λ random. record {
+    λ devices. record {
       cause = record {
         library = c.in-Ok.library;
         of_corpus = record { documents = c.in_ok-corpus.corpus; corpus = c.in_ok-corpus.ensures.ok; published = c.in-Ok.ensures.published };
@@ -15,22 +15,22 @@ returns-in-Err-Failed g c =
       };
       out = refl;
       files = λ name differs. others_kept _ _ _ name c.read_documents.ensures.files (c.write-2.ensures.bytes.others name differs);
-      draws = refl;
+      uses = refl;
     }
 
 pub unreachable-requires : goal.unreachable-requires
 unreachable-requires g c = absurd (c.in-Err-TooLong.ensures.bytes.never_too_long (ap Err c.in-Err-TooLong.field-0-is))
 
 pub returns-in-Err-OutOfMemory-write : goal.returns-in-Err-OutOfMemory-write
-returns-in-Err-OutOfMemory-write g c = λ random. record {
+returns-in-Err-OutOfMemory-write g c = λ devices. record {
   cause = tt;
   out = refl;
   files = same_files _ _ (c.in-Err-OutOfMemory-write.ensures.bytes.kept (ap Err c.in-Err-OutOfMemory-write.field-0-is)) ∙ c.read_documents.ensures.files;
-  draws = refl;
+  uses = refl;
 }
 
 pub returns-in-Ok-put : goal.returns-in-Ok-put
-returns-in-Ok-put g c = λ random. record {
+returns-in-Ok-put g c = λ devices. record {
   text = c.as_bytes.result.now;
   prints = import_answer (import_shown c.args.command.now) _ _ _ c.in_ok-corpus.corpus c.in-Ok.library c.as_slice-2.result.now c.as_bytes.result.now
       c.in_ok-corpus.ensures.ok c.as_slice.ensures.corpus c.in-Ok.ensures.published c.read_documents.ensures.files c.in-Ok-write-2.ensures.bytes.put
@@ -38,16 +38,16 @@ returns-in-Ok-put g c = λ random. record {
   passes = tt;
   took = c.in-Ok-put.ensures.bytes;
   keeps = λ name differs. others_kept _ _ _ name c.read_documents.ensures.files (c.write-2.ensures.bytes.others name differs);
-  draws = refl;
+  uses = refl;
 }
 
 pub returns : goal.returns
-returns g c = λ random. record {
+returns g c = λ devices. record {
   text = c.as_bytes.result.now;
-  prints = import_answer (import_shown c.args.command.now) _ _ _ c.in_ok-corpus.corpus c.in-Ok.library c.as_slice-2.result.now c.as_bytes.result.now
+  begins = import_answer (import_shown c.args.command.now) _ _ _ c.in_ok-corpus.corpus c.in-Ok.library c.as_slice-2.result.now c.as_bytes.result.now
       c.in_ok-corpus.ensures.ok c.as_slice.ensures.corpus c.in-Ok.ensures.published c.read_documents.ensures.files c.in-Ok-write-2.ensures.bytes.put
       (c.as_slice-2.ensures ∙ c.in-Ok-write.ensures) (c.as_bytes.ensures.value ∙ c.in-Ok-numbers_line.ensures ∙ ap import_text c.shape.ensures.value);
   took = record { front = c.in-Err-put.ensures.bytes; rose = c.in-Err-put.ensures.cause.failed };
   keeps = λ name differs. others_kept _ _ _ name c.read_documents.ensures.files (c.write-2.ensures.bytes.others name differs);
-  draws = refl;
+  uses = refl;
 }

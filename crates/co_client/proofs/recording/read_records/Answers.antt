@@ -1,0 +1,55 @@
+use Rattle.std.proofs.Common.{◌≡◌, ℕ, ◌≤◌, ◌∙◌, sym, ap, subst, arith, true, List, [], ◌∷◌, ◌++◌, length, length-append}
+use Rattle.std.specs.Prelude.{All}
+use Rattle.std.proofs.lemmas.List.Elements.{All-push}
+use Rattle.co_pack.specs.declared.records.Record.{Record}
+use Rattle.co_bucket.specs.Lists.{bucket_count}
+use Rattle.co_rounds.specs.Placing.{document_at}
+use Rattle.co_rounds.specs.Recording.{is_within_bins}
+use Rattle.co_client.specs.Records.{record_read}
+use Rattle.co_client.proofs.Readings.{more-read, all-read, fault-read, places-long, place-there}
+use Rattle.co_client.proofs.recording.read_records.Goals as goal
+
+pub bounds-places-bucket : goal.bounds-places-bucket
+bounds-places-bucket c =
+    let s = c.args.reader.now.shape in
+    omega (arith, c.bucket_of-bucket.ensures, c.requires.placed.within c.loop-rank.rank (omega arith), places-long s c.args.hits.now c.args.placed.now c.args.places.now c.requires.places)
+
+pub overflow_cast-bucket : goal.overflow_cast-bucket
+overflow_cast-bucket c =
+    let s = c.args.reader.now.shape in
+    let few : s.hits ≤ 64 = grind (arith, c.degree.ensures.ranges.hits_high) in
+    let room : bucket_count s.hits ≤ 96 = omega arith in
+    omega (arith, c.bucket_of-bucket.ensures, c.requires.placed.within c.loop-rank.rank (omega arith), room)
+
+pub read_one-requires-clause-place : goal.read_one-requires-clause-place
+read_one-requires-clause-place c =
+    place-there c.args.reader.now.shape c.args.hits.now c.args.placed.now c.args.places.now c.loop-rank.rank c.bucket_of-bucket.result c.requires.placed c.requires.places (omega arith) c.bucket_of-bucket.ensures
+
+pub returns-in-Err-clause-read : goal.returns-in-Err-clause-read
+returns-in-Err-clause-read c =
+    let r = c.args.reader.now in
+    let hits = c.args.hits.now in
+    let rank = c.loop-rank.rank in
+    fault-read r.shape r.secret c.args.body.now c.args.placed.now hits rank c.loop-rank.records c.in-Err.fault (omega arith) c.loop-rank.invariant.read
+    (λ cs all s want. ap (λ (k : ℕ). record_read r.shape r.secret cs k (document_at hits rank)) (sym c.bucket_of-bucket.ensures) ∙ c.in-Err.ensures.read cs all s want)
+
+pub loop-rank-preserved : goal.loop-rank-preserved
+loop-rank-preserved c =
+    let r = c.args.reader.now in
+    let hits = c.args.hits.now in
+    let rank = c.loop-rank.rank in
+    let front = c.loop-rank.records in
+    let one = c.in-Ok-read_one.record in
+    let added : c.push.new.self ≡ front ++ one ∷ [] = c.in-Ok-push.ensures.ok in
+    record {
+      read = more-read r.shape r.secret c.args.body.now c.args.placed.now hits rank front c.push.new.self one (omega arith) c.loop-rank.invariant.read added
+          (λ cs all s. ap (λ (k : ℕ). record_read r.shape r.secret cs k (document_at hits rank)) (sym c.bucket_of-bucket.ensures) ∙ c.in-Ok-read_one.ensures.read cs all s);
+      within = subst (λ (rs : List Record). All (λ x. is_within_bins r.shape x.place ≡ true) rs) (sym added)
+          (All-push (λ (x : Record). is_within_bins r.shape x.place ≡ true) front one c.loop-rank.invariant.within c.in-Ok-read_one.ensures.within);
+      long = omega (arith, ap length added, length-append front (one ∷ []), c.loop-rank.invariant.long);
+    }
+
+pub returns-clause-read : goal.returns-clause-read
+returns-clause-read c =
+    let r = c.args.reader.now in
+    all-read r.shape r.secret c.args.body.now c.args.placed.now c.args.hits.now c.loop-rank.rank c.loop-rank.records (omega arith) c.loop-rank.invariant.read

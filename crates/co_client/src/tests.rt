@@ -1,0 +1,135 @@
+//! Searches over a link that plays replies. They are made without a secret: a ciphertext whose
+//! second half is zero opens under each secret to what its first half spells.
+
+ghost use Rattle.std.specs.Prelude.{◌≤◌};
+
+use super::*;
+use co_link::{Bytes, FailNth, FailingCalls, Reply, ScriptLink, Target};
+use co_math::parameters::{FIRST_MODULUS, PLAIN_MODULUS, SECOND_MODULUS};
+use rand_core::SeedableRng;
+use rand_xoshiro::SplitMix64;
+use std::alloc::{AllocError, Global};
+use std::test::Fail;
+
+/// The published bytes of a library of degree 16 with one document, one term, one hit, one row and a
+/// bin of one chunk.
+const PUBLIC: &[u8] =
+    b"COEUSPB1\0\0\0\x10\0\0\0\x01\0\0\0\x01\0\0\0\x01\0\0\0\0\0\0\0\x01\0\0\0\x01\0\0\0\x01\x03sea";
+
+/// q modulo t, and what times t is -1 modulo the two primes of q.
+const REST: u64 = 22_541;
+
+const FIRST_LIFT: u64 = 45_603_803_761_018;
+
+const SECOND_LIFT: u64 = 178_262_045_041_185;
+
+/// A record of document 0 that stands at offset 4 of bin 0 with four bytes and the title "Reef".
+const RECORD: &[u8] = b"\0\0\0\0\0\0\0\0\0\0\0\x04\0\0\0\x04\x04Reef";
+
+/// The residue of q m / t, rounded down, modulo one of the primes of q.
+fn residue(m: u64, prime: u64, lift: u64) -> u64
+    requires { 1 ≤ prime }
+{
+    let rest = REST as u128 * m as u128 % PLAIN_MODULUS as u128;
+    (rest * lift as u128 % prime as u128) as u64
+}
+
+/// Adds a ciphertext that opens to a message.
+fn put_message(body: &mut Vec<u8>, message: &[u64; 16]) -> Result<(), AllocError> {
+    for m in message {
+        let first = residue(*m, FIRST_MODULUS, FIRST_LIFT).to_le_bytes();
+        body.extend_from_slice(&first[..7])?;
+        let second = residue(*m, SECOND_MODULUS, SECOND_LIFT).to_le_bytes();
+        body.extend_from_slice(&second[..7])?;
+    }
+    body.extend_from_slice(&[0; 224])
+}
+
+/// The byte at a place, 0 behind the last.
+fn byte_at(bytes: &[u8], at: usize) -> u64
+    ensures { result ≤ 255 }
+{
+    match bytes.get(at) {
+        Some(byte) => *byte as u64,
+        None => 0,
+    }
+}
+
+/// Adds so many ciphertexts that open to some bytes, with zeros behind them.
+fn put_bytes(body: &mut Vec<u8>, bytes: &[u8], count: usize) -> Result<(), AllocError>
+    requires { count ≤ 8 }
+{
+    for chunk in 0..count {
+        let mut message = [0u64; 16];
+        for k in 0..16 {
+            let high = byte_at(bytes, 32 * chunk + 2 * k);
+            let low = byte_at(bytes, 32 * chunk + 2 * k + 1);
+            message[k] = 256 * high + low;
+        }
+        put_message(body, &message)?;
+    }
+    Ok(())
+}
+
+/// What a library replies: that the document has a score, the record in each bucket, and the bin.
+fn bodies(
+    alloc: Global,
+    score: u64,
+    record: &[u8],
+    text: &[u8],
+) -> Result<[Vec<u8>; 5], AllocError> {
+    let mut public = Vec::new(alloc);
+    public.extend_from_slice(PUBLIC)?;
+    let mut scores = Vec::new(alloc);
+    let mut message = [0; 16];
+    message[0] = score;
+    put_message(&mut scores, &message)?;
+    let mut records = Vec::new(alloc);
+    for _ in 0..3 {
+        put_bytes(&mut records, record, 8)?;
+    }
+    let mut bin = Vec::new(alloc);
+    put_bytes(&mut bin, text, 1)?;
+    Ok([public, Vec::new(alloc), scores, records, bin])
+}
+
+/// A link that plays these bodies, each with status 200.
+fn link(alloc: Global, bodies: [Vec<u8>; 5]) -> Result<ScriptLink, AllocError> {
+    let mut replies = Vec::new(alloc);
+    for body in bodies {
+        replies.push(Reply {
+            status: 200,
+            body: Bytes::from_vec(body),
+        })?;
+    }
+    Ok(ScriptLink::new(alloc, replies, FailingCalls::none(alloc)))
+}
+
+/// Why a search for "sea wind" over these bodies fails.
+fn refusal(alloc: Global, bodies: [Vec<u8>; 5]) -> Result<Option<SearchFault>, AllocError> {
+    let mut link = link(alloc, bodies)?;
+    let mut rng = SplitMix64::seed_from_u64(7);
+    Ok(search(alloc, &mut link, &mut rng, "sea wind", 1).err())
+}
+
+#[test]
+fn finds(rt: HostRuntime) -> Result<(), Fail> {
+    let alloc = rt.alloc();
+    let mut link = link(alloc, bodies(alloc, 3, RECORD, b"sea tide")?)?;
+    let mut rng = SplitMix64::seed_from_u64(7);
+    let found = search(alloc, &mut link, &mut rng, "sea wind", 1)?;
+    let hits = found.hits.as_slice();
+    assert_eq!(rt; hits.len(), 1);
+    assert_eq!(rt; (hits[0].document, hits[0].score), (0, 3));
+    assert_eq!(rt; hits[0].title.as_str(), "Reef");
+    assert_eq!(rt; found.unknown.len(), 1);
+    let (document, text) = found.document.expect(&rt, "a document");
+    assert_eq!(rt; document, 0);
+    assert!(rt; text.as_slice() == b"tide".as_slice());
+    let lengths = [0, 8_064, 448, 1_344, 448];
+    for (exchange, length) in link.exchanges().iter().zip(lengths) {
+        assert_eq!(rt; exchange.request.body.len(), length);
+    }
+    assert_eq!(rt; link.exchanges().len(), 5);
+    Ok(())
+}

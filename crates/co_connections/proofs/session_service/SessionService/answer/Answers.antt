@@ -1,0 +1,15 @@
+use Rattle.std.proofs.Common.{◌∙◌, ap, sym, subst}
+use mathlib.Core.Bool.{true≢false}
+use Rattle.std.specs.Result.{IsOk}
+use Rattle.co_rounds.specs.Answers.{reply_with}
+use Rattle.co_connections.proofs.Stepping.{stepped, step_without_memory}
+use Rattle.co_connections.proofs.session_service.SessionService.answer.Goals as goal
+use Rattle.co_connections.proofs.session_service.SessionService.answer.Goals.{in-Ok, in-Err}
+
+pub returns-clause-step : goal.returns-clause-step
+returns-clause-step g c = elim c.match-reply_of.branch [
+  | in-Ok w ↦ stepped c.self.inside.loaded.now c.self.inside.session c.step-answer.new.self c.args.self.now c.args.request.now c.step-answer.result c.match-reply_of.result
+      c.self.view_is c.step-answer.ensures.answer c.step-answer.ensures.keys (w.result-is ∙ w.in-Ok.ensures.value)
+  | in-Err w ↦ step_without_memory c.self.inside.loaded.now c.self.inside.session c.step-answer.new.self c.args.self.now c.args.request.now c.step-answer.result c.match-reply_of.result
+      c.self.view_is c.step-answer.ensures.answer c.step-answer.ensures.keys (λ empty. true≢false (sym (subst IsOk w.in-Err.is (c.reply_of.ensures.certain empty)))) (w.result-is ∙ ap (reply_with 503) w.new.ensures)
+]
