@@ -1,5 +1,5 @@
 -- The command `rehearse`: what it prints, and when it refuses.
-use Rattle.std.specs.Prelude.{◌≡◌, ℕ, ◌+◌, Bool, true, false, if◌then◌else◌, List, [], ◌∷◌, ◌++◌, length, map, codes, Result, Ok, Err}
+use Rattle.std.specs.Prelude.{◌≡◌, ℕ, ◌+◌, Bool, true, false, if◌then◌else◌, List, [], ◌∷◌, ◌++◌, length, map, codes, decimal, Result, Ok, Err}
 use Rattle.std.specs.Str.{bytes_eq}
 use Rattle.sha2.specs.Sha256.{sha256}
 use Rattle.hex.specs.Hex.{encode_lower}
@@ -16,7 +16,6 @@ use Rattle.co_client.specs.declared.fault.SearchFault.{SearchFault}
 use Rattle.co_client.specs.declared.fault.SearchFault.TheVariants as searching
 use Rattle.coeus.specs.Words.{LocalWords, joined}
 use Rattle.coeus.specs.Refusals.{flat}
-use Rattle.coeus.specs.ShapeLines.{number_line}
 use Rattle.coeus.specs.Generator.{documents_of, queries_of}
 use Rattle.coeus.specs.Locals.{IsSearched}
 use Rattle.coeus.specs.declared.words.RehearseCommand.{RehearseCommand}
@@ -97,13 +96,18 @@ passing test (t ∷ ts) = (if test t then 1 else 0) + passing test ts
 abbrev pub plain_of : List Trial → List ℕ
 plain_of ts = flat (map (λ t. t.plain) ts)
 
+-- a line, and what stands behind it
+abbrev pub line_before : List ℕ → List ℕ → List ℕ
+line_before text others = text ++ (10 ∷ others)
+
 -- the lines: how many documents and queries there are, how many queries agree, how many hits can't be
 -- placed, and the digest of the plain answers
 abbrev pub rehearse_lines : ℕ → ℕ → List ℕ → List ℕ
 rehearse_lines agree unplaced plain =
-    number_line (codes "documents") 600 ++ (number_line (codes "queries") 8
-    ++ (number_line (codes "agree") agree ++ (number_line (codes "unplaced") unplaced
-    ++ (codes "plain " ++ (encode_lower (sha256 plain) ++ (10 ∷ []))))))
+    line_before (codes "documents 600") (line_before (codes "queries 8")
+    (codes "agree " ++ line_before (decimal agree)
+    (codes "unplaced " ++ line_before (decimal unplaced)
+    (codes "plain " ++ line_before (encode_lower (sha256 plain)) []))))
 
 -- ---- the command
 

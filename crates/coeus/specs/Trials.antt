@@ -1,14 +1,17 @@
 -- The steps of `rehearse`: what is made ready, one trial, and what they come to so far.
-use Rattle.std.specs.Prelude.{◌≡◌, ℕ, ◌+◌, ◌++◌, if◌then◌else◌, List, map, string_bytes, Result, Ok, Err}
+use Rattle.std.specs.Prelude.{◌≡◌, ℕ, Bool, ◌+◌, ◌++◌, if◌then◌else◌, List, map, string_bytes, Result, Ok, Err}
 use Rattle.rand_core.specs.Stream.{Stream}
+use Rattle.co_text.specs.declared.found.Found.{Found}
 use Rattle.co_tfidf.specs.Found.{IsIndex}
 use Rattle.co_library.specs.Libraries.{Parts}
 use Rattle.co_library.specs.Refusals.{IsRefused}
+use Rattle.co_client.specs.Causes.{IsAnswered}
 use Rattle.co_client.specs.declared.fault.SearchFault.{SearchFault}
 use Rattle.co_client.specs.declared.fault.SearchFault.TheVariants as searching
+use Rattle.coeus.specs.Words.{LocalWords}
 use Rattle.coeus.specs.Generator.{documents_of, queries_of}
 use Rattle.coeus.specs.Locals.{IsSearched}
-use Rattle.coeus.specs.Rehearsals.{rehearse_settings, IsMadeLibrary, words_asked, Trial, agrees, is_unplaced, IsTrial, AreTrials, passing, plain_of, RehearseCause}
+use Rattle.coeus.specs.Rehearsals.{rehearse_settings, IsMadeLibrary, words_asked, Trial, agrees, is_unplaced, is_printed_as, has_no_placement, IsTrial, AreTrials, passing, plain_of, RehearseCause}
 use Rattle.coeus.specs.declared.words.RehearseCommand.{RehearseCommand}
 use Rattle.coeus.specs.declared.rehearse.Ready.{Ready}
 use Rattle.coeus.specs.declared.rehearse.Tally.{Tally}
@@ -45,13 +48,22 @@ tallied tally t = record {
   plain = tally.plain ++ t.plain;
 }
 
--- why a query isn't tried; want of memory has no cause
-abbrev pub TryCause : RehearseCommand → Parts → ℕ → List (List ℕ) → Stream → Stream → Refusal → Type 0
-TryCause p library pick query was is (refusals.Search (searching.NoPlacement documents buckets)) = ⊥
-TryCause p library pick query was is (refusals.Search fault) =
-    IsSearched (words_asked p pick query) library was is (Err fault)
-TryCause p library pick query was is refusals.Memory = Unit {0}
-TryCause p library pick query was is refusal = ⊥
+-- a search came to this: whether what it found is printed as the text, and whether its hits can't be
+-- placed
+pub record IsJudged (p : LocalWords) (library : Parts) (was is : Stream) (plain : List ℕ)
+    (both : Bool × Bool) : Type 0 where
+  pub result : Result Found SearchFault
+  pub searched : IsSearched p library was is result
+  pub answered : IsAnswered result
+  pub agree : both.0 ≡ is_printed_as plain result
+  pub unplaced : both.1 ≡ has_no_placement result
+
+-- why a search came to neither; want of memory has no cause
+abbrev pub JudgeCause : LocalWords → Parts → Stream → Stream → Refusal → Type 0
+JudgeCause p library was is (refusals.Search (searching.NoPlacement documents buckets)) = ⊥
+JudgeCause p library was is (refusals.Search fault) = IsSearched p library was is (Err fault)
+JudgeCause p library was is refusals.Memory = Unit {0}
+JudgeCause p library was is refusal = ⊥
 
 -- a query was tried
 pub record IsTried (p : RehearseCommand) (library : Parts) (pick : ℕ) (query : List (List ℕ))
@@ -66,7 +78,7 @@ abbrev pub Tries : RehearseCommand → Parts → ℕ → List (List ℕ) → Str
 Tries p library pick query was is before after (Ok _) =
     IsTried p library pick query was is before after
 Tries p library pick query was is before after (Err refusal) =
-    TryCause p library pick query was is refusal
+    JudgeCause (words_asked p pick query) library was is refusal
 
 -- these queries were tried, from the first on
 pub record AreTriedFor (p : RehearseCommand) (library : Parts) (queries : List (List (List ℕ)))

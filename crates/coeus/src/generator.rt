@@ -13,7 +13,7 @@ use std::alloc::{AllocError, Global};
 const DOCUMENTS: u32 = 600;
 
 /// How many queries are made.
-const QUERIES: u32 = 8;
+pub const QUERIES: u32 = 8;
 
 // A number below a bound. The state moves first.
 fn draw(bound: u64, state: &mut u64) -> u64

@@ -1,19 +1,20 @@
 //! The command `rehearse`: eight searches over a library that is made up, and the plain answers to
 //! them, compared.
-ghost use Rattle.std.specs.Prelude.{◌≡◌, ◌≤◌, ◌<◌, ◌^◌, ◌+◌, length, IfOk, IfErr, map, string_bytes, slice_index_or, []};
+ghost use Rattle.std.specs.Prelude.{◌≡◌, ◌≤◌, ◌<◌, ◌^◌, ◌+◌, length, IfOk, IfErr, map, string_bytes, slice_index_or, [], if◌then◌else◌};
 ghost use Rattle.co_text.specs.Terms.{terms, distinct};
 ghost use Rattle.co_text.specs.Printed.{printed};
 ghost use Rattle.co_tfidf.specs.Found.{found, IsIndex};
 ghost use Rattle.coeus.specs.Words.{SpokenRehearse, joined};
-ghost use Rattle.coeus.specs.Commands.{IsWithinRehearsals};
+ghost use Rattle.coeus.specs.Commands.{local_shown, IsWithinRanges, IsWithinRehearsals};
 ghost use Rattle.coeus.specs.Outside.{FilesState, DialState, PortState, outside, devices, sink_state};
 ghost use Rattle.coeus.specs.Generator.{documents_of, queries_of};
 ghost use Rattle.coeus.specs.Rehearsals.{IsMadeLibrary, RehearseAnswer, RehearseCause};
 ghost use Rattle.coeus.specs.Rehearsals.{rehearse_lines};
-ghost use Rattle.coeus.specs.Trials.{IsReady, ReadyCause, Tries, AreTried, StopCause};
+ghost use Rattle.coeus.specs.Trials.{IsReady, ReadyCause, IsJudged, JudgeCause};
+ghost use Rattle.coeus.specs.Trials.{Tries, AreTried, StopCause};
 ghost use Rattle.coeus.specs.Runs.{Ended};
 
-use crate::generator::{Made, make};
+use crate::generator::{Made, QUERIES, make};
 use crate::local::answer;
 use crate::refusals::Refusal;
 use crate::words::{LocalCommand, RehearseCommand, join};
@@ -119,13 +120,45 @@ fn plain_answer(
     render(alloc, &found)
 }
 
-// Answers a query in both ways.
+// Whether a search finds what is printed as this text, and whether its hits can't be placed.
+fn judge<T: Runs, R: Rng>(
+    rt: &T,
+    alloc: Global,
+    loaded: &Loaded,
+    search: &LocalCommand<'_>,
+    plain: &[u8],
+    rng: &mut R,
+) -> Result<(bool, bool), Refusal>
+    requires shared { T.is_shared }
+    requires ranges { IsWithinRanges search.now }
+    ensures ok { IfOk result (IsJudged (local_shown search.now) loaded.now
+        (R.stream rng.old) (R.stream rng.new) plain.now) }
+    ensures cause { IfErr result (JudgeCause (local_shown search.now) loaded.now
+        (R.stream rng.old) (R.stream rng.new)) }
+{
+    match answer(rt, alloc, loaded, search, rng) {
+        Ok(text) => Ok((text.as_slice() == plain, false)),
+        Err(Refusal::Search(SearchFault::NoPlacement {
+            documents: _documents,
+            buckets: _buckets,
+        })) => Ok((false, true)),
+        Err(refusal) => Err(refusal),
+    }
+}
+
+fn one_if(test: bool) -> u32
+    ensures { result ≡ (if test then 1 else 0) }
+{
+    if test { 1 } else { 0 }
+}
+
+// Answers the query at a place in both ways.
 fn try_query<T: Runs, R: Rng>(
     rt: &T,
     alloc: Global,
     ready: &Ready,
     command: &RehearseCommand,
-    place: usize,
+    place: u32,
     rng: &mut R,
     tally: &mut Tally,
 ) -> Result<(), Refusal>
@@ -139,8 +172,8 @@ fn try_query<T: Runs, R: Rng>(
         (slice_index_or (queries_of command.now.number) place [])
         (R.stream rng.old) (R.stream rng.new) tally.old tally.new result }
 {
-    let query = ready.made.queries[place].as_slice();
-    let pick = place as u32 + 1;
+    let query = ready.made.queries[place as usize].as_slice();
+    let pick = place + 1;
     let Ok(plain) = plain_answer(alloc, &ready.made.corpus, &ready.index, query, pick) else {
         return Err(Refusal::Memory);
     };
@@ -150,16 +183,16 @@ fn try_query<T: Runs, R: Rng>(
         workers: command.workers,
         query,
     };
-    let (agree, unplaced) = match answer(rt, alloc, &ready.loaded, &search, rng) {
-        Ok(text) => (text.as_slice() == plain.as_slice(), false),
-        Err(Refusal::Search(SearchFault::NoPlacement { .. })) => (false, true),
+    let both = match judge(rt, alloc, &ready.loaded, &search, plain.as_slice(), rng) {
+        Ok(both) => both,
         Err(refusal) => return Err(refusal),
     };
-    if tally.plain.append(plain.as_slice()).is_err() {
-        return Err(Refusal::Memory);
+    match tally.plain.append(plain.as_slice()) {
+        Ok(()) => {}
+        Err(_) => return Err(Refusal::Memory),
     }
-    tally.agree += agree as u32;
-    tally.unplaced += unplaced as u32;
+    tally.agree += one_if(both.0);
+    tally.unplaced += one_if(both.1);
     Ok(())
 }
 
@@ -183,8 +216,11 @@ fn try_all<T: Runs, R: Rng>(
         unplaced: 0,
         plain: Bytes::new(alloc),
     };
-    for place in 0..ready.made.queries.len() {
-        try_query(rt, alloc, ready, command, place, rng, &mut tally)?;
+    for place in 0..QUERIES {
+        match try_query(rt, alloc, ready, command, place, rng, &mut tally) {
+            Ok(()) => {}
+            Err(refusal) => return Err(refusal),
+        }
     }
     Ok(tally)
 }
@@ -216,8 +252,14 @@ fn rehearsal<T: Runs, R: Rng>(
     ensures cause { IfErr result (RehearseCause command.now
         (R.stream rng.old) (R.stream rng.new)) }
 {
-    let ready = prepare(alloc, command)?;
-    let tally = try_all(rt, alloc, &ready, command, rng)?;
+    let ready = match prepare(alloc, command) {
+        Ok(ready) => ready,
+        Err(refusal) => return Err(refusal),
+    };
+    let tally = match try_all(rt, alloc, &ready, command, rng) {
+        Ok(tally) => tally,
+        Err(refusal) => return Err(refusal),
+    };
     match lines(alloc, &tally) {
         Ok(text) => Ok(text),
         Err(_) => Err(Refusal::Memory),
@@ -243,7 +285,10 @@ pub fn rehearse<T: Runs, R: Rng, O: Sink>(
         (outside files (devices (R.stream rng.new) dial port)
         (sink_state (O.put_so_far out.new) (O.faults out.new))) result }
 {
-    let text = rehearsal(rt, alloc, command, rng)?;
+    let text = match rehearsal(rt, alloc, command, rng) {
+        Ok(text) => text,
+        Err(refusal) => return Err(refusal),
+    };
     match out.put(text.as_bytes()) {
         Ok(()) => Ok(()),
         Err(_) => Err(Refusal::Output),
