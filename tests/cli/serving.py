@@ -1,9 +1,15 @@
 """Cases of `serve` and `search` over the loopback interface: raw clients, false servers, and the two with each other.
 
-A case is a function of a folder, which has the files of data/, and gives its faults as texts. Each server is of the case
-that starts it, and has ended when the case has. Ports are those that the system says are free.
+A case is a function of the program and of a folder, which has the files of data/, and gives its faults as texts. Each
+server is of the case that starts it, and has ended when the case has. Ports are those that the system says are free.
+
+The program listens on all addresses, so the cases run in a network namespace of their own, which has no other interface
+than the loopback one: `alone` makes it, by itself where it may and else in a user namespace of its own. Where neither is
+permitted the cases can't run, and so have failed.
 """
 import contextlib
+import ctypes
+import fcntl
 import os
 import shutil
 import socket
@@ -24,6 +30,22 @@ PHRASES = {
     411: "Length Required", 431: "Request Header Fields Too Large", 500: "Internal Server Error",
     503: "Service Unavailable",
 }
+
+
+def alone():
+    """Takes this process, and those that it starts from here on, into a network namespace of its own."""
+    new_user, new_network = 0x10000000, 0x40000000
+    library = ctypes.CDLL(None, use_errno=True)
+    users = f"0 {os.geteuid()} 1", f"0 {os.getegid()} 1"
+    if library.unshare(new_network):
+        if library.unshare(new_user | new_network):
+            raise OSError(ctypes.get_errno(), "no network namespace of its own is permitted")
+        for name, text in ("setgroups", "deny"), ("uid_map", users[0]), ("gid_map", users[1]):
+            with open(f"/proc/self/{name}", "w", encoding="ascii") as file:
+                file.write(text)
+    set_flags, up_and_running = 0x8914, 0x41
+    with socket.socket() as any_socket:
+        fcntl.ioctl(any_socket, set_flags, struct.pack("16sh22x", b"lo", up_and_running))
 
 
 def response(status, body=b"", closes=False):

@@ -42,6 +42,7 @@ use Rattle.co_client.proofs.Spelled.{spelled-long}
 use Rattle.co_client.proofs.Placed.{rows-are, rows-long}
 use Rattle.co_client.proofs.Placed_hits.{bucket_within, placed_there}
 use Rattle.co_client.proofs.Plain_text.{bin_within}
+use Rattle.co_client.proofs.Whole_replies.{got-within}
 use Rattle.co_client.proofs.Checked.{AreChecked, are-checked}
 use Rattle.co_client.proofs.Ends.{Begun, begun-of, public-told, keys-told, scores-told}
 use Rattle.co_client.proofs.Finishes.{Scored, scored-of, scored-told, records-told, record-told, document-told, text-told, answer-told, concluded-told}
@@ -124,11 +125,6 @@ pub buckets-placed : (shape s : Numbers) (slice : List Ranked) (placing : Placin
 buckets-placed shape s slice placing shown by es p e1 e2 =
     subst (λ (x : Numbers). HaveBuckets x shown by) es
     (subst (λ (xs : List Ranked). HaveBuckets shape xs by) (sym e1) (subst (λ (bs : List (Option ℕ)). HaveBuckets shape (shown_of placing slice) bs) (sym e2) (have-buckets shape slice placing p)))
-
-got-within : {X : Type 0} (P : X → Type 0) (xs : List X) (i : ℕ) (x : X) → All P xs → slice_get xs i ≡ Some x → P x
-got-within P [] i x all e = absurd (none-some x e)
-got-within P (y ∷ ys) zero x all e = subst P (same_Some y x e) (All-head P y ys all)
-got-within P (y ∷ ys) (suc i) x all e = got-within P ys i x (All-tail P y ys all) e
 
 -- the bin of the picked record is one of the bins
 pub picked-within : (s : Numbers) (records : List Record) (pick : ℕ) → 1 ≤ s.bins → All (λ r. is_within_bins s r.place ≡ true) records → bin_asked (picked_record records pick) < s.bins

@@ -1,6 +1,6 @@
 -- Where a search ends, and what it tells there.
 use Rattle.std.proofs.Common.{◌≡◌, ◌≢◌, ℕ, zero, suc, ◌<◌, ◌≤◌, inl, inr, refl, sym, ap, subst, ◌∙◌, ⊎_elim, arith, List, [], ◌∷◌, length, get_or, take, Option, Result, Ok, Err}
-use Rattle.std.specs.Prelude.{All}
+use Rattle.std.specs.Prelude.{slice_get, Some, All}
 use Rattle.std.proofs.lemmas.Bool.{cases_lt}
 use Rattle.std.proofs.lemmas.List.{get_or_past}
 use Rattle.std.proofs.lemmas.List.FromFn.{length-map-range_with_len}
@@ -33,6 +33,9 @@ use Rattle.co_client.specs.declared.fault.SearchFault.TheVariants.{TooManyKeywor
 use Rattle.co_client.specs.declared.publishing.Published.{Published}
 use Rattle.co_client.specs.Causes.{Search, IsCause, IsAnswered}
 use Rattle.co_client.specs.Faults.{IsManyTerms}
+use Rattle.co_client.specs.Earlier.{taken, begun, EndsFirst}
+use Rattle.co_client.proofs.Whole_replies.{IsWholeReply, empty_well, none-all, more-all, begun-most}
+use Rattle.std.proofs.lemmas.Option.{none-some, same_Some}
 use Rattle.co_client.specs.Telling.{Makes, Tells, Told}
 use Rattle.co_client.specs.Published.{public_request, Consults, PublicFails}
 use Rattle.co_client.specs.Rounds.{Comes, RoundFails, LinkFails, keys_request, queries_request}
@@ -45,6 +48,15 @@ use Rattle.co_client.proofs.Told.{for-few, early-rows, round-told}
 no_first : (first : Exchange) (others : List Exchange) → [] ≡ first ∷ others → ⊥
 no_first first others e = absurd (omega (arith, ap length e))
 
+nothing-first : (run : Search) (result : Result Found SearchFault) → EndsFirst run [] result
+nothing-first run result = record {
+  status = λ number e at l. absurd (none-some e at);
+  public = λ e place at l bad. none-some e at;
+  whole = λ s ts p number e place u at l bad. none-some e at;
+  tested = λ s ts p l. absurd (no_first p.first p.others p.are);
+  recorded = λ s ts hits fault l h. absurd (omega (arith, l, begun-most result 0));
+}
+
 many-cause : (run : Search) (fault : SearchFault) → IsManyTerms (length (distinct run.query)) fault → Tells run [] (Err fault) run.stream
 many-cause run (TooManyKeywords found) h = record {
   follows = refl;
@@ -54,6 +66,7 @@ many-cause run (TooManyKeywords found) h = record {
   asked = λ s ts p t. absurd (no_first p.first p.others p.are);
   goes = record { few = λ l. absurd (omega arith); tested = λ s ts p l. absurd (omega arith); taken = λ number e at l. absurd (omega arith) };
   few = tt;
+  earlier = nothing-first run (Err (TooManyKeywords found));
 }
 many-cause run OutOfMemory h = record {
   follows = refl;
@@ -63,6 +76,7 @@ many-cause run OutOfMemory h = record {
   asked = λ s ts p t. absurd (no_first p.first p.others p.are);
   goes = record { few = λ l. absurd (omega arith); tested = λ s ts p l. absurd (omega arith); taken = λ number e at l. absurd (omega arith) };
   few = tt;
+  earlier = nothing-first run (Err OutOfMemory);
 }
 many-cause run (BadPublic place) h = absurd h
 many-cause run (Test fault) h = absurd h
@@ -155,9 +169,45 @@ first-follows e is = ap (λ (r : Request). (r.target, length r.body) ∷ []) is 
     step (Ok p) = refl
     step (Err place) = refl
 
-public-tells : (run : Search) (e : Exchange) (fault : SearchFault) (left : Stream) → e.request ≡ public_request → length (distinct run.query) ≤ 16 → (IsAnswered (Err fault) → ⊥) → IsCause run (e ∷ []) fault
+no_result : {A : Type 0} (x : A) (place : ℕ) → Err place ≡ Ok x → ⊥
+no_result {A} x place e = subst (λ (r : Result A ℕ). elim r as (λ _. Type 0) [ Ok y ↦ ⊥ | Err p ↦ Unit {0} ]) e tt
+
+no_test : (s : Numbers) (fault : TestFault) → Err fault ≡ Ok s → ⊥
+no_test s fault e = subst (λ (r : Result Numbers TestFault). elim r as (λ _. Type 0) [ Ok y ↦ ⊥ | Err p ↦ Unit {0} ]) e tt
+
+-- the one reply is refused
+one-refused : (run : Search) (e : Exchange) (fault : SearchFault) → taken (Err fault) 1 ≡ 0 → begun (Err fault) 1 ≡ 1 → EndsFirst run (e ∷ []) (Err fault)
+one-refused run e fault t b = record {
+  status = λ number x at l. absurd (less number l);
+  public = λ x place at l bad. less 0 l;
+  whole = λ s ts p number x place u at l bad. less number l;
+  tested = λ s ts p l. absurd (few 1 (omega arith) l);
+  recorded = λ s ts hits f l h. few 4 (omega arith) l;
+}
+  where
+    less : (number : ℕ) → number < taken (Err fault) 1 → ⊥
+    less number l = omega (arith, l, t)
+
+    few : (k : ℕ) → 1 ≤ k → k < begun (Err fault) 1 → ⊥
+    few k u l = omega (arith, u, l, b)
+
+-- the numbers fail the test
+one-tested : (run : Search) (body : List ℕ) (fault : TestFault) (s : Numbers) (ts : List (List ℕ)) → public_of body ≡ Ok (s, ts) → EndsFirst run (first_of body ∷ []) (Err (Test fault))
+one-tested run body fault s ts read = record {
+  status = λ number x at l. is_good number x at l;
+  public = λ x place at l bad. no_result (s, ts) place (sym bad ∙ ap (λ (e : Exchange). public_of e.reply.body) (sym (same_Some (first_of body) x at)) ∙ read);
+  whole = λ s' ts' p number x place u at l bad. omega (arith, u, l);
+  tested = λ s' ts' p l. absurd (omega (arith, l));
+  recorded = λ s' ts' hits f l h. omega (arith, l);
+}
+  where
+    is_good : (number : ℕ) (x : Exchange) → slice_get (first_of body ∷ []) number ≡ Some x → number < 1 → x.reply.status ≡ 200
+    is_good zero x at l = ap (λ (e : Exchange). e.reply.status) (sym (same_Some (first_of body) x at))
+    is_good (suc number) x at l = absurd (omega arith)
+
+public-tells : (run : Search) (e : Exchange) (fault : SearchFault) (left : Stream) → e.request ≡ public_request → length (distinct run.query) ≤ 16 → (IsAnswered (Err fault) → ⊥) → IsCause run (e ∷ []) fault → EndsFirst run (e ∷ []) (Err fault)
     → ((s : Numbers) (ts : List (List ℕ)) → public_of e.reply.body ≡ Ok (s, ts) → test_of s ≡ Ok s → IsDegree s.degree) → Tells run (e ∷ []) (Err fault) left
-public-tells run e fault left is few open_end cause known = record {
+public-tells run e fault left is few open_end cause ends known = record {
   follows = first-follows e is;
   whole = λ a. absurd (open_end a);
   read = tt;
@@ -182,13 +232,8 @@ public-tells run e fault left is few open_end cause known = record {
       };
   goes = record { few = λ l. few; tested = λ s ts p l. absurd (omega arith); taken = λ number x at l. absurd (omega arith) };
   few = for-few (length (distinct run.query)) few (Err fault);
+  earlier = ends;
 }
-
-no_result : {A : Type 0} (x : A) (place : ℕ) → Err place ≡ Ok x → ⊥
-no_result {A} x place e = subst (λ (r : Result A ℕ). elim r as (λ _. Type 0) [ Ok y ↦ ⊥ | Err p ↦ Unit {0} ]) e tt
-
-no_test : (s : Numbers) (fault : TestFault) → Err fault ≡ Ok s → ⊥
-no_test s fault e = subst (λ (r : Result Numbers TestFault). elim r as (λ _. Type 0) [ Ok y ↦ ⊥ | Err p ↦ Unit {0} ]) e tt
 
 pub public-told : (run : Search) (was now : Option (List Exchange)) (fault : SearchFault) (left : Stream) → length (distinct run.query) ≤ 16 → PublicFails was now fault
     → LinkFails {T = Found} run.before run.now run.last_failed (record { target = targets_of.Public; limit = most_public }) (Err fault) → Told run was now (Err fault) left
@@ -197,20 +242,21 @@ public-told run was now (Refused target status) left few h l = record {
   makes = makes-one was was now [] public_request (reply_with status h.body) (makes-none was) h.comes;
   tells = public-tells run (exchange_of public_request (reply_with status h.body)) (Refused target status) left refl few (λ a. a)
       (record { reply = reply_with status h.body; ends = record { front = []; request = public_request; are = refl; target_is = sym h.target_is }; is = refl; bad = h.bad })
+      (one-refused run (exchange_of public_request (reply_with status h.body)) (Refused target status) refl refl)
       (λ s ts read t. degree-of s ts (read-good s ts h.body h.bytes read));
 }
 public-told run was now (BadPublic place) left few h l = record {
   exchanges = first_of h.body ∷ [];
   makes = makes-one was was now [] public_request (reply_with 200 h.body) (makes-none was) h.comes;
   tells = public-tells run (first_of h.body) (BadPublic place) left refl few (λ a. a)
-      (record { body = h.body; ends = record { front = []; request = public_request; are = refl; target_is = refl }; bad = h.bad })
+      (record { body = h.body; ends = record { front = []; request = public_request; are = refl; target_is = refl }; bad = h.bad }) (one-refused run (first_of h.body) (BadPublic place) refl refl)
       (λ s ts read t. absurd (no_result (s, ts) place (sym h.bad ∙ read)));
 }
 public-told run was now (Test fault) left few h l = record {
   exchanges = first_of h.public.body ∷ [];
   makes = makes-one was was now [] public_request (reply_with 200 h.public.body) (makes-none was) h.public.comes;
   tells = public-tells run (first_of h.public.body) (Test fault) left refl few (λ a. a)
-      (record { shape = h.shape; terms = h.terms; published = record { first = first_of h.public.body; others = []; are = refl; read = h.public.read }; fails = h.fails; alone = refl })
+      (record { shape = h.shape; terms = h.terms; published = record { first = first_of h.public.body; others = []; are = refl; read = h.public.read }; fails = h.fails; alone = refl }) (one-tested run h.public.body fault h.shape h.terms h.public.read)
       (λ s ts read t. degree-of s ts (subst (λ (x : Numbers × List (List ℕ)). ArePublic x.0 x.1) (ok_is (h.shape, h.terms) (s, ts) (sym h.public.read ∙ read)) h.public.good));
 }
 public-told run was now Link left few h l =
@@ -231,6 +277,7 @@ public-told run was now Link left few h l =
         asked = λ s ts p t. absurd (no_first p.first p.others p.are);
         goes = record { few = λ u. absurd (omega arith); tested = λ s ts p u. absurd (omega arith); taken = λ number e at u. absurd (omega arith) };
         few = few;
+        earlier = nothing-first run (Err Link);
       };
     }
 public-told run was now OutOfMemory left few (inl h) l = record {
@@ -244,12 +291,13 @@ public-told run was now OutOfMemory left few (inl h) l = record {
     asked = λ s ts p t. absurd (no_first p.first p.others p.are);
     goes = record { few = λ u. absurd (omega arith); tested = λ s ts p u. absurd (omega arith); taken = λ number e at u. absurd (omega arith) };
     few = tt;
+    earlier = nothing-first run (Err OutOfMemory);
   };
 }
 public-told run was now OutOfMemory left few (inr h) l = record {
   exchanges = first_of h.body ∷ [];
   makes = makes-one was was now [] public_request (reply_with 200 h.body) (makes-none was) h.comes;
-  tells = public-tells run (first_of h.body) OutOfMemory left refl few (λ a. a) tt (λ s ts read t. degree-of s ts (read-good s ts h.body h.bytes read));
+  tells = public-tells run (first_of h.body) OutOfMemory left refl few (λ a. a) tt (one-refused run (first_of h.body) OutOfMemory refl refl) (λ s ts read t. degree-of s ts (read-good s ts h.body h.bytes read));
 }
 public-told run was now (BadReply target place) left few h l = absurd h
 public-told run was now (TooManyKeywords found) left few h l = absurd h
@@ -267,13 +315,17 @@ unfolding keys_request
 keys-told run was mid now s keywords unknown before fault left b h l early =
     let first = first_of b.body in
     let trail : IsTrail s b.messages (any-rows s) 0 run.stream (first ∷ []) = record { requests = refl } in
-    round-told run s b.terms b.messages first (any-rows s) 0 b.few b.read b.passes b.are (any-long s) [] trail (early-rows run (first ∷ []) s b.terms (any-rows s) 0 (omega arith)) (one-good first refl)
+    round-told run s b.terms b.messages first (any-rows s) 0 b.few b.read b.passes b.are (any-long s) [] trail (early-rows run (first ∷ []) s b.terms (any-rows s) 0 (omega arith)) (one-good first refl) (none-all (IsWholeReply s))
     (keys_request s run.stream) 0 was mid now before left (λ reply. record { requests = refl }) (λ reply. early-rows run (first ∷ exchange_of (keys_request s run.stream) reply ∷ []) s b.terms (any-rows s) 0 (omega arith))
-    refl not_keys refl b.makes early fault h l
+    refl not_keys refl b.makes early (λ u. absurd (omega arith)) (λ reply u. absurd (omega arith)) fault h l
 
 -- the keys are handed over
 abbrev pub keys_of : Numbers → Stream → Exchange
 keys_of s stream = exchange_of (keys_request s stream) (reply_with 200 [])
+
+pub keys-whole : (s : Numbers) (stream : Stream) → IsWholeReply s (keys_of s stream)
+unfolding keys_request
+keys-whole s stream place = empty_well [] place refl
 
 -- the round of the scores gives nothing
 pub scores-told : (run : Search) (was mid next now : Option (List Exchange)) (s : Numbers) (keywords : List ℕ) (unknown : List (List ℕ)) (before : ℕ) (fault : SearchFault) (left : Stream) (b : Begun run was mid s keywords unknown) → Comes mid next (keys_request s run.stream) (reply_with 200 [])
@@ -284,7 +336,7 @@ scores-told run was mid next now s keywords unknown before fault left b came h l
     let first = first_of b.body in
     let second = keys_of s run.stream in
     let trail : IsTrail s b.messages (any-rows s) 0 run.stream (first ∷ second ∷ []) = record { requests = refl } in
-    round-told run s b.terms b.messages first (any-rows s) 0 b.few b.read b.passes b.are (any-long s) (second ∷ []) trail (early-rows run (first ∷ second ∷ []) s b.terms (any-rows s) 0 (omega arith)) (two-good first second refl refl)
+    round-told run s b.terms b.messages first (any-rows s) 0 b.few b.read b.passes b.are (any-long s) (second ∷ []) trail (early-rows run (first ∷ second ∷ []) s b.terms (any-rows s) 0 (omega arith)) (two-good first second refl refl) (more-all (IsWholeReply s) second [] (keys-whole s run.stream) (none-all (IsWholeReply s)))
     (score_request s b.messages run.stream) (reply_size s targets_of.Score) was next now before left (λ reply. record { requests = refl })
     (λ reply. early-rows run (first ∷ second ∷ exchange_of (score_request s b.messages run.stream) reply ∷ []) s b.terms (any-rows s) 0 (omega arith))
-    refl not_score refl (makes-one was mid next (first ∷ []) (keys_request s run.stream) (reply_with 200 []) b.makes came) early fault h l
+    refl not_score refl (makes-one was mid next (first ∷ []) (keys_request s run.stream) (reply_with 200 []) b.makes came) early (λ u. absurd (omega arith)) (λ reply u. absurd (omega arith)) fault h l

@@ -1,5 +1,5 @@
 -- Where a search ends behind its scores, and what it tells there.
-use Rattle.std.proofs.Common.{◌≡◌, ◌≢◌, ℕ, zero, suc, ◌*◌, ◌<◌, ◌≤◌, ◌-◌, Bool, true, false, cond, eqb, refl, sym, ap, subst, ◌∙◌, arith, List, [], ◌∷◌, length, Option, None, Result, Ok, Err}
+use Rattle.std.proofs.Common.{◌≡◌, ◌≢◌, ℕ, zero, suc, ◌*◌, ◌<◌, ◌≤◌, ◌-◌, mul_assoc, Bool, true, false, cond, eqb, refl, sym, ap, subst, ◌∙◌, arith, List, [], ◌∷◌, length, Option, Some, None, Result, Ok, Err}
 use Rattle.std.specs.Prelude.{All, slice_get}
 use Rattle.rand_core.specs.Stream.{Stream}
 use Rattle.co_link.specs.Exchanges.{exchange_of}
@@ -34,16 +34,17 @@ use Rattle.co_client.specs.declared.placing.Placing.{Placing}
 use Rattle.co_client.specs.declared.placing.Placing.TheVariants.{Placed, Unplaced}
 use Rattle.co_client.specs.Causes.{Search, ReadsHits, ReadsRecords, ReadsPicked, HasBadRecord, HasBadText, secret_of}
 use Rattle.co_client.specs.Faults.{is_want}
+use Rattle.co_client.proofs.Whole_replies.{IsWholeReply, spells_well, none-all, more-all}
 use Rattle.co_client.specs.Telling.{Makes, Told}
 use Rattle.co_client.specs.Placings.{IsPlacing, by_bucket, shown_of, concluded}
 use Rattle.co_client.specs.Records.{records_read, picked_record, picked_read, bin_asked, hits_shown}
 use Rattle.co_client.specs.Rounds.{Comes, Ranks, RoundFails, LinkFails, keys_request, queries_request}
 use Rattle.co_client.proofs.Exchanged.{in_front}
-use Rattle.co_client.proofs.Unique.{hits-one, records-one}
+use Rattle.co_client.proofs.Unique.{asked_for, hits-one, records-one}
 use Rattle.co_client.proofs.Trails.{makes-one, score_request, record_request, bin_request, IsTrail, trail-whole, after_scores, after_all}
 use Rattle.co_client.proofs.RecordFaults.{record-refusal, text-refusal}
 use Rattle.co_client.proofs.Told.{AreRowsOf, early-rows, tells-here, tells-all, round-told}
-use Rattle.co_client.proofs.Ends.{Begun, first_of, keys_of, any-rows, any-long}
+use Rattle.co_client.proofs.Ends.{keys-whole, Begun, first_of, keys_of, any-rows, any-long}
 
 -- the scores are read, three exchanges are made, and this is left of the stream
 pub record Scored (run : Search) (was now : Option (List Exchange)) (s : Numbers) (hits : List Ranked) (unknown : List (List ℕ)) (rest : Stream) : Type 0 where
@@ -114,6 +115,28 @@ value_or (Err e) d = d
 ok-value : {A : Type 0} {x y : A} → ◌≡◌ {A = Result A SearchFault} (Ok x) (Ok y) → x ≡ y
 ok-value {A} {x} e = ap (λ r. value_or r x) e
 
+-- ---- replies that are whole
+
+third-whole : (s : Numbers) (ms : List (List ℕ)) (stream : Stream) (body : List ℕ) (cs : List Ciphertext) → SpellsCiphers s.degree (document_blocks s) cs body → IsWholeReply s (exchange_of (score_request s ms stream) (reply_with 200 body))
+unfolding queries_request
+third-whole s ms stream body cs h place = spells_well s.degree (document_blocks s) (reply_size s targets_of.Score) body place (record { ciphers = cs; spelled = h }) refl
+
+fourth-whole : (s : Numbers) (ms : List (List ℕ)) (rows : List ℕ) (stream : Stream) (body : List ℕ) (cs : List Ciphertext) → SpellsCiphers s.degree (bucket_count s.hits * record_chunks s.degree) cs body
+    → IsWholeReply s (exchange_of (record_request s ms rows stream) (reply_with 200 body))
+unfolding queries_request
+fourth-whole s ms rows stream body cs h place =
+    spells_well s.degree (bucket_count s.hits * record_chunks s.degree) (reply_size s targets_of.Meta) body place (record { ciphers = cs; spelled = h }) (sym (mul_assoc (bucket_count s.hits) (record_chunks s.degree) (28 * s.degree)))
+
+fifth-whole : (s : Numbers) (ms : List (List ℕ)) (rows : List ℕ) (bin : ℕ) (stream : Stream) (body : List ℕ) (cs : List Ciphertext) → SpellsCiphers s.degree s.chunks cs body → IsWholeReply s (exchange_of (bin_request s ms rows bin stream) (reply_with 200 body))
+unfolding queries_request
+fifth-whole s ms rows bin stream body cs h place = spells_well s.degree s.chunks (reply_size s targets_of.Document) body place (record { ciphers = cs; spelled = h }) refl
+
+two-whole : {run : Search} {was now : Option (List Exchange)} {hits : List Ranked} {unknown : List (List ℕ)} {rest : Stream} (s : Numbers) (b : Scored run was now s hits unknown rest)
+    → All (IsWholeReply s) (keys_of s run.stream ∷ exchange_of (score_request s b.messages run.stream) (reply_with 200 b.reply) ∷ [])
+two-whole {run} s b =
+    let third = exchange_of (score_request s b.messages run.stream) (reply_with 200 b.reply) in
+    more-all (IsWholeReply s) (keys_of s run.stream) (third ∷ []) (keys-whole s run.stream) (more-all (IsWholeReply s) third [] (third-whole s b.messages run.stream b.reply b.replies b.spelled) (none-all (IsWholeReply s)))
+
 -- memory is wanting before records are asked for
 pub scored-told : (run : Search) (was now : Option (List Exchange)) (s : Numbers) (hits : List Ranked) (unknown : List (List ℕ)) (rest left : Stream) → Scored run was now s hits unknown rest → Told run was now (Err OutOfMemory) left
 scored-told run was now s hits unknown rest left b =
@@ -122,7 +145,7 @@ scored-told run was now s hits unknown rest left b =
       exchanges = first_of b.body ∷ keys_of s run.stream ∷ third ∷ [];
       makes = b.makes;
       tells = tells-here run s b.terms b.messages (first_of b.body) (any-rows s) 0 b.few b.read b.passes b.are (any-long s) (keys_of s run.stream ∷ third ∷ []) (record { requests = refl })
-          (early-rows run (first_of b.body ∷ keys_of s run.stream ∷ third ∷ []) s b.terms (any-rows s) 0 (omega arith)) (three-good (first_of b.body) (keys_of s run.stream) third refl refl refl) (Err OutOfMemory) left (λ a. a) tt tt;
+          (early-rows run (first_of b.body ∷ keys_of s run.stream ∷ third ∷ []) s b.terms (any-rows s) 0 (omega arith)) (three-good (first_of b.body) (keys_of s run.stream) third refl refl refl) (two-whole s b) (Err OutOfMemory) left (λ a. a) tt tt (λ u. absurd (omega arith));
     }
 
 -- ---- the rows and the bin that are asked
@@ -182,9 +205,9 @@ module _ (run : Search) (was : Option (List Exchange)) (now : Option (List Excha
   unfolding queries_request
   records-told later before fault left h l early =
       round-told run s b.terms b.messages (first_of b.body) rows 0 b.few b.read b.passes b.are long (keys_of s run.stream ∷ third ∷ []) (record { requests = refl })
-      (early-rows run (first_of b.body ∷ keys_of s run.stream ∷ third ∷ []) s b.terms rows 0 (omega arith)) (three-good (first_of b.body) (keys_of s run.stream) third refl refl refl)
+      (early-rows run (first_of b.body ∷ keys_of s run.stream ∷ third ∷ []) s b.terms rows 0 (omega arith)) (three-good (first_of b.body) (keys_of s run.stream) third refl refl refl) (two-whole s b)
       (record_request s b.messages rows run.stream) (reply_size s targets_of.Meta) was now later before left (λ reply. record { requests = refl }) (λ reply. rows-four reply 0)
-      refl not_meta refl b.makes early fault h l
+      refl not_meta refl b.makes early (λ u. absurd (omega arith)) (λ reply u. absurd (omega arith)) fault h l
 
   -- ---- the records are there, and four exchanges are made
 
@@ -195,6 +218,12 @@ module _ (run : Search) (was : Option (List Exchange)) (now : Option (List Excha
 
     makes-four : Makes was later (first_of b.body ∷ keys_of s run.stream ∷ third ∷ fourth_of ∷ [])
     makes-four = makes-one was now later (first_of b.body ∷ keys_of s run.stream ∷ third ∷ []) (record_request s b.messages rows run.stream) (reply_with 200 reply4) b.makes came4
+
+    three-whole : All (IsWholeReply s) (keys_of s run.stream ∷ third ∷ fourth_of ∷ [])
+    three-whole =
+        more-all (IsWholeReply s) (keys_of s run.stream) (third ∷ fourth_of ∷ []) (keys-whole s run.stream)
+        (more-all (IsWholeReply s) third (fourth_of ∷ []) (third-whole s b.messages run.stream b.reply b.replies b.spelled)
+        (more-all (IsWholeReply s) fourth_of [] (fourth-whole s b.messages rows run.stream reply4 replies4 spelled4) (none-all (IsWholeReply s))))
 
     reads-hits : (others : List Exchange) → ReadsHits run (first_of b.body ∷ keys_of s run.stream ∷ third ∷ others) s b.terms hits
     unfolding queries_request
@@ -226,7 +255,7 @@ module _ (run : Search) (was : Option (List Exchange)) (now : Option (List Excha
           exchanges = first_of b.body ∷ keys_of s run.stream ∷ third ∷ fourth_of ∷ [];
           makes = makes-four;
           tells = tells-here run s b.terms b.messages (first_of b.body) rows 0 b.few b.read b.passes b.are long (keys_of s run.stream ∷ third ∷ fourth_of ∷ []) (record { requests = refl }) (rows-four (reply_with 200 reply4) 0)
-              (four-good (first_of b.body) (keys_of s run.stream) third fourth_of refl refl refl refl) (Err fault) left no.open_end tt no.cause;
+              (four-good (first_of b.body) (keys_of s run.stream) third fourth_of refl refl refl refl) three-whole (Err fault) left no.open_end tt no.cause (λ u. absurd (omega (arith, u, no.begun_is 4)));
         }
       where
         bad : (x : Placing) → placing ≡ x → records_read s (secret_of run s) replies4 (by_bucket placing) 0 (shown_of placing hits) ≡ Err fault → HasBadRecord run (first_of b.body ∷ keys_of s run.stream ∷ third ∷ fourth_of ∷ []) fault
@@ -267,6 +296,30 @@ module _ (run : Search) (was : Option (List Exchange)) (now : Option (List Excha
           ap (λ (rs : List Record). bin_asked (picked_record rs run.pick)) (ok-value one))
           (λ u documents buckets is. none-picked placing documents buckets is)
 
+      -- the records have no fault
+      no-fault : (es : List Exchange) → ((k : ℕ) (t : Target) → slice_get (asked_for es) k ≡ Some t → slice_get targets k ≡ Some t) → slice_get es 3 ≡ Some fourth_of → ((others : List Ranked) → ReadsHits run es s b.terms others → hits ≡ others)
+          → (others : List Ranked) (fault : SearchFault) → ReadsRecords run es s b.terms others (Err fault) → ⊥
+      unfolding queries_request
+      no-fault es order at only others fault r = step placing refl
+        where
+          step : (x : Placing) → placing ≡ x → ⊥
+          step (Placed p) is =
+              no_err fault
+              (records-one run es s b.terms (record_request s b.messages rows run.stream) reply4 replies4 hits p (Ok records) order at refl spelled4 (subst (λ (x : Placing). IsPlacing s hits x) is placed)
+              (sym found ∙ ap (λ (x : Placing). records_read s (secret_of run s) replies4 (by_bucket x) 0 (shown_of x hits)) is) only others (Err fault) r)
+          step (Unplaced documents buckets) is =
+              let e = only others r.ranked in
+              let un : IsUnplaced s others documents buckets = subst (λ (hs : List Ranked). IsUnplaced s hs documents buckets) e (subst (λ (x : Placing). IsPlacing s hits x) is placed) in
+              refuses (choices_of s others) un.ranks buckets r.placement.choices un.witness r.placement.is_least.assigns
+
+      recorded-four : (others : List Ranked) (fault : SearchFault) → ReadsRecords run (first_of b.body ∷ keys_of s run.stream ∷ third ∷ fourth_of ∷ []) s b.terms others (Err fault) → ⊥
+      unfolding keys_request queries_request
+      recorded-four = no-fault (first_of b.body ∷ keys_of s run.stream ∷ third ∷ fourth_of ∷ []) (λ k t h. in_front 4 targets k t h) refl (only-four (reply_with 200 reply4))
+
+      recorded-five : (reply : Reply) (others : List Ranked) (fault : SearchFault) → ReadsRecords run (first_of b.body ∷ keys_of s run.stream ∷ third ∷ fourth_of ∷ fifth reply ∷ []) s b.terms others (Err fault) → ⊥
+      unfolding keys_request queries_request
+      recorded-five reply = no-fault (first_of b.body ∷ keys_of s run.stream ∷ third ∷ fourth_of ∷ fifth reply ∷ []) (λ k t h. in_front 5 targets k t h) refl (only-five reply)
+
       trail-four : IsTrail s b.messages rows bin run.stream (first_of b.body ∷ keys_of s run.stream ∷ third ∷ fourth_of ∷ [])
       trail-four = record { requests = refl }
 
@@ -277,8 +330,8 @@ module _ (run : Search) (was : Option (List Exchange)) (now : Option (List Excha
       unfolding queries_request
       document-told last before fault left h l early =
           round-told run s b.terms b.messages (first_of b.body) rows bin b.few b.read b.passes b.are long (keys_of s run.stream ∷ third ∷ fourth_of ∷ []) trail-four (rows-four (reply_with 200 reply4) bin)
-          (four-good (first_of b.body) (keys_of s run.stream) third fourth_of refl refl refl refl) (bin_request s b.messages rows bin run.stream) (reply_size s targets_of.Document) was later last before left (λ reply. record { requests = refl }) rows-five
-          refl not_document refl makes-four early fault h l
+          (four-good (first_of b.body) (keys_of s run.stream) third fourth_of refl refl refl refl) three-whole (bin_request s b.messages rows bin run.stream) (reply_size s targets_of.Document) was later last before left (λ reply. record { requests = refl }) rows-five
+          refl not_document refl makes-four early (λ u. recorded-four) (λ reply u. recorded-five reply) fault h l
 
       -- ---- all five exchanges are made
 
@@ -291,6 +344,13 @@ module _ (run : Search) (was : Option (List Exchange)) (now : Option (List Excha
 
         makes-five : Makes was last all
         makes-five = makes-one was later last (first_of b.body ∷ keys_of s run.stream ∷ third ∷ fourth_of ∷ []) (bin_request s b.messages rows bin run.stream) (reply_with 200 reply5) makes-four came5
+
+        four-whole : All (IsWholeReply s) (keys_of s run.stream ∷ third ∷ fourth_of ∷ fifth_of ∷ [])
+        four-whole =
+            more-all (IsWholeReply s) (keys_of s run.stream) (third ∷ fourth_of ∷ fifth_of ∷ []) (keys-whole s run.stream)
+            (more-all (IsWholeReply s) third (fourth_of ∷ fifth_of ∷ []) (third-whole s b.messages run.stream b.reply b.replies b.spelled)
+            (more-all (IsWholeReply s) fourth_of (fifth_of ∷ []) (fourth-whole s b.messages rows run.stream reply4 replies4 spelled4)
+            (more-all (IsWholeReply s) fifth_of [] (fifth-whole s b.messages rows bin run.stream reply5 replies5 spelled5) (none-all (IsWholeReply s)))))
 
         good-five : All (λ e. e.reply.status ≡ 200) all
         good-five = five-good (first_of b.body) (keys_of s run.stream) third fourth_of fifth_of refl refl refl refl refl
@@ -310,7 +370,7 @@ module _ (run : Search) (was : Option (List Exchange)) (now : Option (List Excha
             record {
               exchanges = all;
               makes = makes-five;
-              tells = tells-here run s b.terms b.messages (first_of b.body) rows bin b.few b.read b.passes b.are long (keys_of s run.stream ∷ third ∷ fourth_of ∷ fifth_of ∷ []) (record { requests = refl }) (rows-five (reply_with 200 reply5)) good-five (Err fault) left no.open_end tt no.cause;
+              tells = tells-here run s b.terms b.messages (first_of b.body) rows bin b.few b.read b.passes b.are long (keys_of s run.stream ∷ third ∷ fourth_of ∷ fifth_of ∷ []) (record { requests = refl }) (rows-five (reply_with 200 reply5)) good-five four-whole (Err fault) left no.open_end tt no.cause (λ u. recorded-five (reply_with 200 reply5));
             }
           where
             none : (records' : List Record) (t : Bool) → records' ≡ [] → cond t None (slice_get {X = Record} records' (run.pick - 1)) ≡ None
@@ -328,7 +388,7 @@ module _ (run : Search) (was : Option (List Exchange)) (now : Option (List Excha
         answer-told left = record {
           exchanges = all;
           makes = makes-five;
-          tells = tells-here run s b.terms b.messages (first_of b.body) rows bin b.few b.read b.passes b.are long (keys_of s run.stream ∷ third ∷ fourth_of ∷ fifth_of ∷ []) (record { requests = refl }) (rows-five (reply_with 200 reply5)) good-five (Err OutOfMemory) left (λ a. a) tt tt;
+          tells = tells-here run s b.terms b.messages (first_of b.body) rows bin b.few b.read b.passes b.are long (keys_of s run.stream ∷ third ∷ fourth_of ∷ fifth_of ∷ []) (record { requests = refl }) (rows-five (reply_with 200 reply5)) good-five four-whole (Err OutOfMemory) left (λ a. a) tt tt (λ u. recorded-five (reply_with 200 reply5));
         }
 
         -- the answer is found
@@ -337,8 +397,8 @@ module _ (run : Search) (was : Option (List Exchange)) (now : Option (List Excha
         found-told p f left is shown unknown picked at_end = record {
           exchanges = all;
           makes = makes-five;
-          tells = tells-all run s b.terms b.messages (first_of b.body) rows bin b.few b.read b.passes b.are long (keys_of s run.stream ∷ third ∷ fourth_of ∷ fifth_of ∷ []) (record { requests = refl }) (rows-five (reply_with 200 reply5)) good-five (Ok f) left refl at_end
-              (record { shape = s; terms = b.terms; hits = hits; records = records; read = reads-records (fifth_of ∷ []) p (Ok records) is found; shown = shown; unknown = unknown; picked = reads-picked (Ok f.document) picked }) tt;
+          tells = tells-all run s b.terms b.messages (first_of b.body) rows bin b.few b.read b.passes b.are long (keys_of s run.stream ∷ third ∷ fourth_of ∷ fifth_of ∷ []) (record { requests = refl }) (rows-five (reply_with 200 reply5)) good-five four-whole (Ok f) left refl at_end
+              (record { shape = s; terms = b.terms; hits = hits; records = records; read = reads-records (fifth_of ∷ []) p (Ok records) is found; shown = shown; unknown = unknown; picked = reads-picked (Ok f.document) picked }) tt (λ u. recorded-five (reply_with 200 reply5));
         }
 
         -- the hits can't be placed
@@ -346,10 +406,10 @@ module _ (run : Search) (was : Option (List Exchange)) (now : Option (List Excha
         unplaced-told documents buckets left is at_end = record {
           exchanges = all;
           makes = makes-five;
-          tells = tells-all run s b.terms b.messages (first_of b.body) rows bin b.few b.read b.passes b.are long (keys_of s run.stream ∷ third ∷ fourth_of ∷ fifth_of ∷ []) (record { requests = refl }) (rows-five (reply_with 200 reply5)) good-five (Err (NoPlacement documents buckets)) left refl at_end tt (
+          tells = tells-all run s b.terms b.messages (first_of b.body) rows bin b.few b.read b.passes b.are long (keys_of s run.stream ∷ third ∷ fourth_of ∷ fifth_of ∷ []) (record { requests = refl }) (rows-five (reply_with 200 reply5)) good-five four-whole (Err (NoPlacement documents buckets)) left refl at_end tt (
             record { shape = s; terms = b.terms; hits = hits; ranked = reads-hits (fourth_of ∷ fifth_of ∷ []); unplaced = subst (λ (x : Placing). IsPlacing s hits x) is placed },
             trail-whole s b.terms b.messages rows bin run.stream (first_of b.body) (keys_of s run.stream ∷ third ∷ fourth_of ∷ fifth_of ∷ []) b.are.count long b.read refl (record { requests = refl }),
-          );
+          ) (λ u. recorded-five (reply_with 200 reply5));
         }
 
         -- either of both

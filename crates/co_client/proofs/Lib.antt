@@ -1,4 +1,5 @@
 pub mod Results
+pub mod Whole_replies
 pub mod Spelled
 pub mod Ranged
 pub mod Opened

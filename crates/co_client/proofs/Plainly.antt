@@ -39,6 +39,7 @@ use Rattle.co_rounds.proofs.OneAnswer.{good_answered}
 use Rattle.co_client.specs.declared.fault.SearchFault.{SearchFault}
 use Rattle.co_client.specs.declared.fault.SearchFault.TheVariants.{TooManyKeywords, BadPublic, Test, NoPlacement, Link, Refused, BadReply, WrongRecord, BadPlace, NotByte, BadRecord, OutOfMemory}
 use Rattle.co_client.specs.Openings.{IsBadReply}
+use Rattle.co_client.proofs.Whole_replies.{spells_well, empty_well}
 use Rattle.co_client.specs.Plain.{plain_hits, AnswersPlainly}
 use Rattle.co_client.specs.Causes.{Search, Publishes, ReadsHits, ReadsRecords, ReadsPicked, IsRead, IsRefusedBy, HasBadPublic, FailsTest, HasBadReply, HasNoPlacement, HasBadRecord, HasBadText, IsCause, Asks}
 use Rattle.co_client.specs.Going.{GoesOn}
@@ -62,22 +63,6 @@ same_answer x y e = cc
 
 not_both : {X : Type 0} (place : ℕ) (x : X) → ◌≡◌ {A = Result X ℕ} (Err place) (Ok x) → ⊥
 not_both place x e = absurd cc
-
--- a body that spells ciphertexts is not refused
-spells_well : (n count size : ℕ) (body : List ℕ) (place : ℕ) → Spells n count body → size ≡ count * (28 * n) → IsBadReply size body place → ⊥
-spells_well n count size body place s is (inl h) = wrong_length (length body) (good-list n count s.ciphers body (WrongLength (count * (28 * n)) (length body)) s.spelled (refl, refl, λ e. h.0 (e ∙ sym is)))
-  where
-    wrong_length : (found : ℕ) → WrongLength (count * (28 * n)) found ≡ NoMemory → ⊥
-    wrong_length found e = absurd cc
-spells_well n count size body place s is (inr h) = wrong_range place (good-list n count s.ciphers body (WrongRange place) s.spelled (h.0 ∙ is, h.1))
-  where
-    wrong_range : (at : ℕ) → WrongRange at ≡ NoMemory → ⊥
-    wrong_range at e = absurd cc
-
--- an empty body is not refused where nothing is wanted
-empty_well : (body : List ℕ) (place : ℕ) → body ≡ [] → IsBadReply 0 body place → ⊥
-empty_well body place e (inl h) = h.0 (ap (λ (xs : List ℕ). length xs) e)
-empty_well body place e (inr h) = omega (arith, ap (λ (xs : List ℕ). length xs) e, h.1.within)
 
 -- ---- what was published
 

@@ -15,6 +15,7 @@ use Rattle.co_rounds.specs.Recording.{is_within_bins, bucket_replies}
 use Rattle.co_client.specs.declared.fault.SearchFault.{SearchFault}
 use Rattle.co_client.specs.declared.fault.SearchFault.TheVariants.{TooManyKeywords, BadPublic, Test, NoPlacement, Link, Refused, BadReply, WrongRecord, BadPlace, NotByte, BadRecord, OutOfMemory}
 use Rattle.co_client.specs.Causes.{Search, IsCause, IsAnswered, HasBadRecord, HasBadText}
+use Rattle.co_client.specs.Earlier.{begun}
 use Rattle.co_client.specs.Faults.{is_want}
 use Rattle.co_client.specs.Records.{◌>>=◌, bytes_or_fault, opened_bytes, checked, record_read, bucket_of, records_read, text_read, picked_read}
 
@@ -146,6 +147,7 @@ text-cause run es OutOfMemory o h = absurd o
 pub record IsRefusal (run : Search) (es : List Exchange) (fault : SearchFault) : Type 0 where
   pub cause : IsCause run es fault
   pub open_end : IsAnswered (Err fault) → ⊥
+  pub begun_is : (n : ℕ) → begun (Err fault) n ≡ n
 
 of-record-open : (fault : SearchFault) → IsOfRecord fault → IsAnswered (Err fault) → ⊥
 of-record-open (NoPlacement documents buckets) o a = absurd o
@@ -175,6 +177,34 @@ of-text-open (Refused target status) o a = a
 of-text-open (BadReply target place) o a = a
 of-text-open OutOfMemory o a = a
 
+of-record-begun : (fault : SearchFault) → IsOfRecord fault → (n : ℕ) → begun (Err fault) n ≡ n
+of-record-begun (NoPlacement documents buckets) o n = refl
+of-record-begun (NotByte target reply place) o n = refl
+of-record-begun (WrongRecord wanted found) o n = refl
+of-record-begun (BadPlace document) o n = refl
+of-record-begun (BadRecord document place) o n = refl
+of-record-begun (TooManyKeywords found) o n = refl
+of-record-begun (BadPublic place) o n = refl
+of-record-begun (Test fault) o n = refl
+of-record-begun (Refused target status) o n = refl
+of-record-begun (BadReply target place) o n = refl
+of-record-begun OutOfMemory o n = refl
+of-record-begun Link o n = absurd o
+
+of-text-begun : (fault : SearchFault) → IsOfText fault → (n : ℕ) → begun (Err fault) n ≡ n
+of-text-begun (NoPlacement documents buckets) o n = refl
+of-text-begun (NotByte target reply place) o n = refl
+of-text-begun (WrongRecord wanted found) o n = refl
+of-text-begun (BadPlace document) o n = refl
+of-text-begun (BadRecord document place) o n = refl
+of-text-begun (TooManyKeywords found) o n = refl
+of-text-begun (BadPublic place) o n = refl
+of-text-begun (Test fault) o n = refl
+of-text-begun (Refused target status) o n = refl
+of-text-begun (BadReply target place) o n = refl
+of-text-begun OutOfMemory o n = refl
+of-text-begun Link o n = absurd o
+
 -- want of memory is free, and each other fault is the one that reading finds
 want-or-not : (fault : SearchFault) → (fault ≡ OutOfMemory) ⊎ (is_want fault ≡ false)
 want-or-not OutOfMemory = inl refl
@@ -191,7 +221,7 @@ want-or-not (Refused target status) = inr refl
 want-or-not (BadReply target place) = inr refl
 
 memory-refusal : (run : Search) (es : List Exchange) (fault : SearchFault) → fault ≡ OutOfMemory → IsRefusal run es fault
-memory-refusal run es fault e = subst (IsRefusal run es) (sym e) (record { cause = tt; open_end = λ a. a })
+memory-refusal run es fault e = subst (IsRefusal run es) (sym e) (record { cause = tt; open_end = λ a. a; begun_is = λ n. refl })
 
 pub record-refusal : (run : Search) (es : List Exchange) (s : Numbers) (secret : List ℤ) (cs : List Ciphertext) (placed : List (Option ℕ)) (hits : List Ranked) (fault : SearchFault)
     → (is_want fault ≡ false → records_read s secret cs placed 0 hits ≡ Err fault) → (records_read s secret cs placed 0 hits ≡ Err fault → HasBadRecord run es fault) → IsRefusal run es fault
@@ -200,7 +230,7 @@ record-refusal run es s secret cs placed hits fault h bad =
     (λ w.
     let is = h w in
     let of : IsOfRecord fault = subst (λ (r : Result (List Record) SearchFault). Faults IsOfRecord r) is (records-faults s secret cs placed 0 hits) in
-    record { cause = record-cause run es fault of (bad is); open_end = of-record-open fault of })
+    record { cause = record-cause run es fault of (bad is); open_end = of-record-open fault of; begun_is = of-record-begun fault of })
     (want-or-not fault)
 
 pub text-refusal : (run : Search) (es : List Exchange) (secret : List ℤ) (cs : List Ciphertext) (picked : Option Record) (fault : SearchFault)
@@ -210,5 +240,5 @@ text-refusal run es secret cs picked fault h bad =
     (λ w.
     let is = h w in
     let of : IsOfText fault = subst (λ (r : Result (Option (ℕ × List ℕ)) SearchFault). Faults IsOfText r) is (picked-faults secret cs picked) in
-    record { cause = text-cause run es fault of (bad is); open_end = of-text-open fault of })
+    record { cause = text-cause run es fault of (bad is); open_end = of-text-open fault of; begun_is = of-text-begun fault of })
     (want-or-not fault)

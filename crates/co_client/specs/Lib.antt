@@ -3,6 +3,7 @@ pub mod Records
 pub mod Causes
 pub mod Plain
 pub mod Going
+pub mod Earlier
 pub mod Telling
 pub mod Rounds
 pub mod Openings

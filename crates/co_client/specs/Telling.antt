@@ -10,6 +10,7 @@ use Rattle.co_rounds.specs.Plans.{FollowsPlan, IsWholePlan}
 use Rattle.co_client.specs.declared.fault.SearchFault.{SearchFault}
 use Rattle.co_client.specs.Causes.{Search, Publishes, IsRead, IsCause, IsAnswered, Asks}
 use Rattle.co_client.specs.Going.{GoesOn}
+use Rattle.co_client.specs.Earlier.{EndsFirst}
 use Rattle.co_client.specs.Faults.{IsForFew}
 
 -- these exchanges came behind those before, where the link tells its exchanges
@@ -26,6 +27,7 @@ pub record Tells (run : Search) (es : List Exchange) (result : Result Found Sear
   pub asked : (s : Numbers) (ts : List (List ℕ)) → Publishes es s ts → test_of s ≡ Ok s → Asks run es s ts result left
   pub goes : GoesOn run es
   pub few : IsForFew (length (distinct run.query)) result
+  pub earlier : EndsFirst run es result
 
 -- a search made these exchanges, and tells all of them
 pub record Told (run : Search) (was now : Option (List Exchange)) (result : Result Found SearchFault) (left : Stream) : Type 0 where

@@ -13,7 +13,9 @@ ghost use Rattle.co_rounds.specs.Plans.{made, Extends, FollowsPlan, IsWholePlan}
 ghost use Rattle.co_rounds.specs.Recording.{IsLibraryFor};
 ghost use Rattle.co_client.specs.Causes.{Search, Publishes, IsRead, IsCause, IsCauseUntold, IsAnswered, Asks};
 ghost use Rattle.co_client.specs.Going.{GoesOn};
+ghost use Rattle.co_client.specs.Earlier.{EndsFirst};
 ghost use Rattle.co_client.specs.Plain.{AnswersPlainly};
+ghost use Rattle.co_client.specs.Sure.{AreSure};
 ghost use Rattle.co_client.specs.Telling.{Told};
 ghost use Rattle.co_client.specs.Faults.{IsManyTerms, IsForFew};
 ghost use Rattle.co_client.specs.Placings.{concluded};
@@ -176,6 +178,11 @@ pub fn search<K: Link, R: Rng>(
     ensures plain { (es : List Exchange) → made (K.exchanges link.old) (K.exchanges link.new) ≡ Some es
         → (documents : List Document) (settings : Settings) (l : Parts) (held : Option (List ℕ)) → IsLibraryFor documents settings l → AreHonest l held es
         → AnswersPlainly documents settings l (terms query.now) pick result }
+    // And each ciphertext that it decrypts means its message, with twice its noise below q.
+    ensures sure { (es : List Exchange) → made (K.exchanges link.old) (K.exchanges link.new) ≡ Some es
+        → (documents : List Document) (settings : Settings) (l : Parts) (held : Option (List ℕ)) → IsLibraryFor documents settings l → AreHonest l held es
+        → (s : Numbers) (ts : List (List ℕ)) → Publishes es s ts → test_of s ≡ Ok s
+        → AreSure (record { query = terms query.now; pick = pick; stream = R.stream rng.old; before = K.faults link.old; now = K.faults link.new; last_failed = K.last_failed link.new }) es s ts }
     // Over any exchanges: number, order and lengths of the requests follow the published parameters.
     ensures planned { (es : List Exchange) → made (K.exchanges link.old) (K.exchanges link.new) ≡ Some es → FollowsPlan es }
     ensures whole { (es : List Exchange) → made (K.exchanges link.old) (K.exchanges link.new) ≡ Some es → IsAnswered result → IsWholePlan es }
@@ -185,6 +192,8 @@ pub fn search<K: Link, R: Rng>(
     ensures refused { (es : List Exchange) → made (K.exchanges link.old) (K.exchanges link.new) ≡ Some es
         → IfErr result (IsCause (record { query = terms query.now; pick = pick; stream = R.stream rng.old; before = K.faults link.old; now = K.faults link.new; last_failed = K.last_failed link.new }) es) }
     ensures untold { IfErr result (IsCauseUntold (record { query = terms query.now; pick = pick; stream = R.stream rng.old; before = K.faults link.old; now = K.faults link.new; last_failed = K.last_failed link.new })) }
+    // It ends at the first cause: whatever it answers, it went past none of another refusal.
+    ensures earlier { (es : List Exchange) → made (K.exchanges link.old) (K.exchanges link.new) ≡ Some es → EndsFirst (record { query = terms query.now; pick = pick; stream = R.stream rng.old; before = K.faults link.old; now = K.faults link.new; last_failed = K.last_failed link.new }) es result }
     // Any other answer than too many keywords, or want of memory, comes only for few.
     ensures few { IsForFew (length (distinct (terms query.now))) result }
     // The requests are the drawn ones.

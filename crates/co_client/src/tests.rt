@@ -133,3 +133,141 @@ fn finds(rt: HostRuntime) -> Result<(), Fail> {
     assert_eq!(rt; link.exchanges().len(), 5);
     Ok(())
 }
+
+#[test]
+fn refuses_records_and_texts(rt: HostRuntime) -> Result<(), Fail> {
+    let alloc = rt.alloc();
+    let other = b"\0\0\0\x01\0\0\0\0\0\0\0\x04\0\0\0\x04\x04Reef".as_slice();
+    let fault = refusal(alloc, bodies(alloc, 3, other, b"sea tide")?)?;
+    assert!(rt;
+        matches!(
+            fault,
+            Some(SearchFault::WrongRecord {
+                wanted: 0,
+                found: 1
+            })
+        )
+    );
+    let past = b"\0\0\0\0\0\0\0\x01\0\0\0\x04\0\0\0\x04\x04Reef".as_slice();
+    let fault = refusal(alloc, bodies(alloc, 3, past, b"sea tide")?)?;
+    assert!(rt; matches!(fault, Some(SearchFault::BadPlace { document: 0 })));
+    let long = b"\0\0\0\0\0\0\0\0\0\0\0\x04\0\0\0\x1d\x04Reef".as_slice();
+    let fault = refusal(alloc, bodies(alloc, 3, long, b"sea tide")?)?;
+    assert!(rt; matches!(fault, Some(SearchFault::BadPlace { document: 0 })));
+    let titled = b"\0\0\0\0\0\0\0\0\0\0\0\x04\0\0\0\x04\xc9Reef".as_slice();
+    let fault = refusal(alloc, bodies(alloc, 3, titled, b"sea tide")?)?;
+    assert!(rt;
+        matches!(
+            fault,
+            Some(SearchFault::BadRecord {
+                document: 0,
+                place: 16
+            })
+        )
+    );
+    let mut replies = bodies(alloc, 3, RECORD, b"sea tide")?;
+    let mut bin = Vec::new(alloc);
+    let mut message = [0; 16];
+    message[9] = 65_536;
+    put_message(&mut bin, &message)?;
+    replies[4] = bin;
+    let fault = refusal(alloc, replies)?;
+    assert!(rt;
+        matches!(
+            fault,
+            Some(SearchFault::NotByte {
+                target: Target::Document,
+                reply: 0,
+                place: 9
+            })
+        )
+    );
+    Ok(())
+}
+
+#[test]
+fn refuses_replies(rt: HostRuntime) -> Result<(), Fail> {
+    let alloc = rt.alloc();
+    let mut replies = bodies(alloc, 3, RECORD, b"sea tide")?;
+    replies[0].truncate(7);
+    let fault = refusal(alloc, replies)?;
+    assert!(rt; matches!(fault, Some(SearchFault::BadPublic { place: 0 })));
+    let mut replies = bodies(alloc, 3, RECORD, b"sea tide")?;
+    if let Some(bins) = replies[0].get_mut(35) {
+        *bins = 17;
+    }
+    let fault = refusal(alloc, replies)?;
+    assert!(rt; matches!(fault, Some(SearchFault::Test(_))));
+    let mut replies = bodies(alloc, 3, RECORD, b"sea tide")?;
+    replies[1].push(0)?;
+    let fault = refusal(alloc, replies)?;
+    assert!(rt;
+        matches!(
+            fault,
+            Some(SearchFault::BadReply {
+                target: Target::Keys,
+                place: 0
+            })
+        )
+    );
+    let mut replies = bodies(alloc, 3, RECORD, b"sea tide")?;
+    replies[2].truncate(447);
+    let fault = refusal(alloc, replies)?;
+    assert!(rt;
+        matches!(
+            fault,
+            Some(SearchFault::BadReply {
+                target: Target::Score,
+                place: 447
+            })
+        )
+    );
+    let mut replies = bodies(alloc, 3, RECORD, b"sea tide")?;
+    replies[3].truncate(14);
+    replies[3].extend_from_slice(&[255; 10_738])?;
+    let fault = refusal(alloc, replies)?;
+    assert!(rt;
+        matches!(
+            fault,
+            Some(SearchFault::BadReply {
+                target: Target::Meta,
+                place: 14
+            })
+        )
+    );
+    Ok(())
+}
+
+#[test]
+fn refuses_words_and_links(rt: HostRuntime) -> Result<(), Fail> {
+    let alloc = rt.alloc();
+    let mut rng = SplitMix64::seed_from_u64(7);
+    let mut script = link(alloc, bodies(alloc, 3, RECORD, b"sea tide")?)?;
+    let words = "a b c d e f g h i j k l m n o p q";
+    let fault = search(alloc, &mut script, &mut rng, words, 1).err();
+    assert!(rt; matches!(fault, Some(SearchFault::TooManyKeywords { found: 17 })));
+    assert_eq!(rt; script.exchanges().len(), 0);
+    let mut numbers = Vec::new(alloc);
+    numbers.push(3)?;
+    let mut failing = FailNth::new(alloc, script, FailingCalls::new(numbers));
+    let fault = search(alloc, &mut failing, &mut rng, "sea wind", 1).err();
+    assert!(rt; matches!(fault, Some(SearchFault::Link)));
+    assert_eq!(rt; failing.inner().exchanges().len(), 3);
+    let mut refused = Vec::new(alloc);
+    refused.push(Reply {
+        status: 503,
+        body: Bytes::new(alloc),
+    })?;
+    let mut script = ScriptLink::new(alloc, refused, FailingCalls::none(alloc));
+    let fault = search(alloc, &mut script, &mut rng, "sea wind", 1).err();
+    assert!(rt;
+        matches!(
+            fault,
+            Some(SearchFault::Refused {
+                target: Target::Public,
+                status: 503
+            })
+        )
+    );
+    Ok(())
+}

@@ -15,4 +15,7 @@ pub mod Partition
 pub mod Roots
 pub mod Counting
 pub mod Working
-pub mod Chained
+pub mod Counted
+pub mod Termwise
+pub mod Ranged
+pub mod Numbered

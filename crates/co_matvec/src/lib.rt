@@ -9,13 +9,12 @@
 //! queries, and how ciphertexts are spelled in bytes.
 #![tactic(auto)]
 
-mod chains;
 mod diagonals;
+mod keys;
 mod laws;
 mod matrix;
 mod scores;
-#[cfg(test)]
-mod tests;
+mod sorting;
 mod units;
 mod weights;
 

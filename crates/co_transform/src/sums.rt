@@ -44,7 +44,7 @@ pub fn less(x: u64, m: u64) -> u64
     ensures below { x < m → result ≡ x }
     ensures above { m ≤ x → result ≡ x - m }
 {
-    if x < m { x } else { x - m }
+    x.min(x.wrapping_sub(m))
 }
 
 /// A number below 4q modulo q.

@@ -1,5 +1,5 @@
 -- Which random words a search over a library takes.
-use Rattle.std.proofs.Common.{◌≡◌, ◌≤◌, ℕ, List, [], ◌∷◌, length, Option, None, Ok, Err, sym, ap, subst, ◌∙◌, arith}
+use Rattle.std.proofs.Common.{◌≡◌, ℕ, List, [], ◌∷◌, length, Option, None, Ok, Err, sym, ap, subst, ◌∙◌, arith}
 use Rattle.std.specs.Prelude.{Result, IfOk, IfErr, slice_get, slice_index_or}
 use Rattle.std.specs.List.{range_with_len}
 use Rattle.std.proofs.lemmas.List.{length-map, nil_from_length}
@@ -72,9 +72,8 @@ rows_count s hits placed =
 
 asked_by : (p : LocalWords) (l : Parts) (was is : Stream) (result : Result Found SearchFault) (es : List Exchange) (shape : Numbers) (names : List (List ℕ))
     (asks : Asks (search_for p was) es shape names result is) → length asks.rows ≡ bucket_count shape.hits → IsAnswered result
-    → length (query_of p.query) ≤ 16 → told shape names ≡ told l.shape l.terms → IsDrawn p l was is
-asked_by p l was is result es shape names asks count answered few same = record {
-  few = few;
+    → told shape names ≡ told l.shape l.terms → IsDrawn p l was is
+asked_by p l was is result es shape names asks count answered same = record {
   rows = asks.rows;
   count = subst (λ (x : Numbers × List (List ℕ)). length asks.rows ≡ bucket_count x.0.hits) same count;
   bin = asks.bin;
@@ -96,7 +95,7 @@ is_drawn p l was is (Ok found) es library honest whole going read refused asked 
     let asks : Asks (search_for p was) es read.shape read.terms (Ok found) is = asked read.shape read.terms ranked.published ranked.passes in
     asked_by p l was is (Ok found) es read.shape read.terms asks
     (ap length (asks.placed_rows (omega (arith, count)) read.hits read.read.placed ranked read.read.placement) ∙ rows_count read.shape read.hits read.read.placed)
-    answered (going.few (omega (arith, count)))
+    answered
     (library_told (search_for p was) l es w.shape read.shape read.terms library honest going w.all ranked.published)
 is_drawn p l was is (Err (NoPlacement documents buckets)) es library honest whole going read refused asked answered =
     let w : IsWholePlan es = whole answered in
@@ -105,6 +104,6 @@ is_drawn p l was is (Err (NoPlacement documents buckets)) es library honest whol
     let asks : Asks (search_for p was) es cause.shape cause.terms (Err (NoPlacement documents buckets)) is = asked cause.shape cause.terms cause.ranked.published cause.ranked.passes in
     asked_by p l was is (Err (NoPlacement documents buckets)) es cause.shape cause.terms asks
     (ap length (asks.unplaced_rows (omega (arith, count)) cause.hits documents buckets cause.ranked cause.unplaced) ∙ rows_count cause.shape cause.hits [])
-    answered (going.few (omega (arith, count)))
+    answered
     (library_told (search_for p was) l es w.shape cause.shape cause.terms library honest going w.all cause.ranked.published)
 is_drawn p l was is (Err fault) es library honest whole going read refused asked answered = absurd answered

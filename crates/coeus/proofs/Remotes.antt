@@ -17,6 +17,7 @@ use Rattle.co_rounds.specs.Honest.{AreHonest}
 use Rattle.co_rounds.specs.Plans.{made, Extends, FollowsPlan, IsWholePlan}
 use Rattle.co_rounds.specs.Recording.{IsLibraryFor}
 use Rattle.co_client.specs.Causes.{Search, Publishes, IsRead, IsCause, IsCauseUntold, IsAnswered, Asks}
+use Rattle.co_client.specs.Earlier.{EndsFirst}
 use Rattle.co_client.specs.Faults.{IsForFew}
 use Rattle.co_client.specs.Going.{GoesOn}
 use Rattle.co_client.specs.Plain.{AnswersPlainly, plain_hits}
@@ -60,9 +61,10 @@ pub sought : (p : SearchWords) (port : PortState) (was mid is : DialState) (rand
     → Asks (asks text p.pick random mid.faults is) es s ts result left)
     → ((es : List Exchange) → made mid.exchanges is.exchanges ≡ Some es → (documents : List Document) (settings : Settings) (l : Parts) (held : Option (List ℕ))
     → IsLibraryFor documents settings l → AreHonest l held es → AnswersPlainly documents settings l (terms text) p.pick result)
+    → ((es : List Exchange) → made mid.exchanges is.exchanges ≡ Some es → EndsFirst (asks text p.pick random mid.faults is) es result)
     → IfErr result (IsCauseUntold (asks text p.pick random mid.faults is)) → IsForFew (length (distinct (terms text))) result
     → Sought p (devices random was port) (devices left is port) result
-sought p port was mid is random left result text same dialled clears faults beside extends planned whole going read refused asked plain untold few =
+sought p port was mid is random left result text same dialled clears faults beside extends planned whole going read refused asked plain earlier untold few =
     let of_query = λ (C : Search → Type 0) (x : C (asks text p.pick random mid.faults is)).
         subst (λ (n : ℕ). C (asks (joined p.query) p.pick random n is)) faults (subst (λ (t : List ℕ). C (asks t p.pick random mid.faults is)) same x) in
     let told = told_by was.exchanges mid.exchanges is.exchanges (IsSought p (devices random was port) (devices left is port) result) clears extends
@@ -74,6 +76,8 @@ sought p port was mid is random left result text same dialled clears faults besi
             refused = of_query (λ r. IfErr result (IsCause r es)) (refused es all);
             asked = λ s ts publishes passes. of_query (λ r. Asks r es s ts result left) (asked es all s ts publishes passes);
             goes = of_query (λ r. GoesOn r es) (going es all);
+            few = of_query (λ r. IsForFew (length (distinct r.query)) result) few;
+            earlier = of_query (λ r. EndsFirst r es result) (earlier es all);
           };
           plain = λ documents settings l held built honest.
               subst (λ (t : List ℕ). AnswersPlainly documents settings l (terms t) p.pick result) same (plain es all documents settings l held built honest);

@@ -9,7 +9,7 @@ use Rattle.co_link.specs.declared.files.FileKind.TheVariants.{Read}
 use Rattle.co_link.specs.declared.messages.Exchange.{Exchange}
 use Rattle.co_noise.specs.Shapes.{Numbers}
 use Rattle.co_noise.specs.Bounds.{test_of}
-use Rattle.co_text.specs.Terms.{terms}
+use Rattle.co_text.specs.Terms.{terms, distinct}
 use Rattle.co_text.specs.declared.found.Found.{Found}
 use Rattle.co_text.specs.declared.ranks.Ranked.{Ranked}
 use Rattle.co_corpus.specs.declared.documents.Document.{Document}
@@ -26,6 +26,7 @@ use Rattle.co_rounds.specs.Placing.{choices_of, CanBePlaced, IsUnplaced}
 use Rattle.co_rounds.specs.Recording.{IsLibraryFor}
 use Rattle.co_client.specs.Causes.{Search, Publishes, IsRead, IsCause, IsAnswered, Asks}
 use Rattle.co_client.specs.Going.{GoesOn}
+use Rattle.co_client.specs.Faults.{IsForFew}
 use Rattle.co_client.specs.Plain.{AnswersPlainly, plain_hits}
 use Rattle.co_client.specs.declared.fault.SearchFault.{SearchFault}
 use Rattle.co_client.specs.declared.fault.SearchFault.TheVariants as searching
@@ -76,7 +77,7 @@ for_text text pick random = record { query = terms text; pick = pick; stream = r
 
 -- of a new link all exchanges are those of the search
 pub searched_over : (p : LocalWords) (library : Parts) (was is : Stream) (result : Result Found SearchFault) (text : List ℕ) (before now : List Exchange)
-    → text ≡ joined p.query → before ≡ [] → IsLibrary library → AreHonest library None now
+    → text ≡ joined p.query → before ≡ [] → IsLibrary library → AreHonest library None now → IsForFew (length (distinct (terms text))) result
     → ((es : List Exchange) → made (Some before) (Some now) ≡ Some es → FollowsPlan es)
     → ((es : List Exchange) → made (Some before) (Some now) ≡ Some es → IsAnswered result → IsWholePlan es)
     → ((es : List Exchange) → made (Some before) (Some now) ≡ Some es → GoesOn (for_text text p.pick was) es)
@@ -87,7 +88,7 @@ pub searched_over : (p : LocalWords) (library : Parts) (was is : Stream) (result
     → ((es : List Exchange) → made (Some before) (Some now) ≡ Some es → (documents : List Document) (settings : Settings) (l : Parts) (held : Option (List ℕ))
     → IsLibraryFor documents settings l → AreHonest l held es → AnswersPlainly documents settings l (terms text) p.pick result)
     → IsSearched p library was is result
-searched_over p library was is result text before now same new good honest planned whole going read refused asked plain =
+searched_over p library was is result text before now same new good honest few planned whole going read refused asked plain =
     let all : made (Some before) (Some now) ≡ Some now = ap (λ (es : List Exchange). made (Some es) (Some now)) new in
     let goes = subst (λ (t : List ℕ). GoesOn (for_text t p.pick was) now) same (going now all) in
     let reads = subst (λ (t : List ℕ). IfOk result (IsRead (for_text t p.pick was) now)) same (read now all) in
@@ -95,6 +96,7 @@ searched_over p library was is result text before now same new good honest plann
     let asks : (s : Numbers) (ts : List (List ℕ)) → Publishes now s ts → test_of s ≡ Ok s → Asks (search_for p was) now s ts result is =
     λ s ts publishes passes. subst (λ (t : List ℕ). Asks (for_text t p.pick was) now s ts result is) same (asked now all s ts publishes passes) in
     record {
+      few = subst (λ (t : List ℕ). IsForFew (length (distinct (terms t))) result) same few;
       exchanges = now;
       honest = honest;
       planned = planned now all;
@@ -114,6 +116,7 @@ no_exchange x xs same = absurd cc
 -- a search that isn't begun, for want of memory
 pub not_begun : (p : LocalWords) (library : Parts) (random : Stream) → IsSearched p library random random (Err searching.OutOfMemory)
 not_begun p library random = record {
+  few = tt;
   exchanges = [];
   honest = tt;
   planned = refl;

@@ -52,7 +52,7 @@ unopened p was is refusal cause same out files = absurd cause
 
 -- ---- from the call to listen on
 
-all_outputs : Bool → Option (List (List ℕ)) → Option (List ℕ) → Option (List (List ℕ))
+abbrev all_outputs : Bool → Option (List (List ℕ)) → Option (List ℕ) → Option (List (List ℕ))
 all_outputs connected outputs put = option_and_then (λ (os : List (List ℕ)). option_map (λ (p : List ℕ). ended_with connected os p) put) outputs
 
 -- what a port tells the same of connections, it told before

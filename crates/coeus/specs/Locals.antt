@@ -24,6 +24,7 @@ use Rattle.co_rounds.specs.Placing.{CanBePlaced}
 use Rattle.co_rounds.specs.Recording.{IsLibraryFor}
 use Rattle.co_client.specs.Causes.{Search, Publishes, IsRead, IsCause, IsAnswered, Asks}
 use Rattle.co_client.specs.Going.{GoesOn}
+use Rattle.co_client.specs.Faults.{IsForFew}
 use Rattle.co_client.specs.Plain.{AnswersPlainly, plain_hits}
 use Rattle.co_client.specs.declared.fault.SearchFault.{SearchFault}
 use Rattle.co_client.specs.declared.fault.SearchFault.TheVariants as searching
@@ -83,10 +84,9 @@ search_for p random = record {
   last_failed = None;
 }
 
--- a search for few terms was drawn by a library's numbers: the secret, the keys, a query for each
--- block of terms, one for each bucket and one for a bin; and this is left of the random words
+-- a search was drawn by a library's numbers: the secret, the keys, a query for each block of terms,
+-- one for each bucket and one for a bin; and this is left of the random words
 pub record IsDrawn (p : LocalWords) (library : Parts) (was is : Stream) : Type 0 where
-  pub few : length (query_of p.query) ≤ MAX_KEYWORDS
   pub rows : List ℕ
   pub count : length rows ≡ bucket_count library.shape.hits
   pub bin : ℕ
@@ -94,14 +94,16 @@ pub record IsDrawn (p : LocalWords) (library : Parts) (was is : Stream) : Type 0
   pub drawn : IsAsked library.shape (numbers_of library.terms (query_of p.query)) rows bin was
       asked is
 
--- a search over exchanges that are honest to a library has this result: number, order and lengths
--- of its requests are planned by the published numbers, and one follows another only where few
--- terms are asked, the numbers pass the test and the reply was taken; what it answers is read from
--- them; they are the drawn ones, and after an answer or a refused placement the random words are
--- left where the draws of one search leave them. If the library is that of a corpus, the result is
--- the plain answer, or that its hits can't be placed
+-- a search over exchanges that are honest to a library has this result: for more than sixteen terms
+-- only that they are too many, or want of memory; number, order and lengths of its requests are
+-- planned by the published numbers, and one follows another only where few terms are asked, the
+-- numbers pass the test and the reply was taken; what it answers is read from them; they are the
+-- drawn ones, and after an answer or a refused placement the random words are left where the draws
+-- of one search leave them. If the library is that of a corpus, the result is the plain answer, or
+-- that its hits can't be placed
 pub record IsSearched (p : LocalWords) (library : Parts) (was is : Stream)
     (result : Result Found SearchFault) : Type 0 where
+  pub few : IsForFew (length (query_of p.query)) result
   pub exchanges : List Exchange
   pub honest : AreHonest library None exchanges
   pub planned : FollowsPlan exchanges

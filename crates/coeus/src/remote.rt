@@ -65,7 +65,10 @@ pub fn search_remote<D: Dial, R: Rng, O: Sink>(
         (outside files (devices (R.stream rng.new) dial_is port)
         (sink_state (O.put_so_far out.new) (O.faults out.new))) result }
 {
-    let found = ask(alloc, command, dial, rng)?;
+    let found = match ask(alloc, command, dial, rng) {
+        Ok(found) => found,
+        Err(refusal) => return Err(refusal),
+    };
     let Ok(text) = render(alloc, &found) else {
         return Err(Refusal::Memory);
     };

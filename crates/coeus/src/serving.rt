@@ -7,7 +7,7 @@ ghost use Rattle.coeus.specs.Outside.{port_state, sink_state};
 ghost use Rattle.coeus.specs.Outside.{DialState, devices, outside_of};
 ghost use Rattle.coeus.specs.Connections.{end_text, connection_line};
 ghost use Rattle.coeus.specs.Served.{ServesNext, ServesSome};
-ghost use Rattle.coeus.specs.Runs.{Ended};
+ghost use Rattle.coeus.specs.Runs.{Ended as CommandEnded};
 ghost use Rattle.rand_core.specs.Stream.{Stream};
 
 use crate::local::load;
@@ -139,13 +139,16 @@ pub fn serve<T: Threads + Sync, F: Files, P: Port, O: Sink>(
         (P.put_so_far port.old) (P.Source.faults port.old) (P.Sink.faults port.old) in
         let port_is = port_state (P.tells port.new) (P.Port.faults port.new) (P.left port.new)
         (P.put_so_far port.new) (P.Source.faults port.new) (P.Sink.faults port.new) in
-        Ended (SpokenServe (serve_shown command.now))
+        CommandEnded (SpokenServe (serve_shown command.now))
         (outside_of (F.held files.old) (F.faults files.old) (F.last_failed files.old)
         (devices random dial port_was) (O.put_so_far out.old) (O.faults out.old))
         (outside_of (F.held files.new) (F.faults files.new) (F.last_failed files.new)
         (devices random dial port_is) (O.put_so_far out.new) (O.faults out.new)) result }
 {
-    let loaded = load(alloc, command.library, files)?;
+    let loaded = match load(alloc, command.library, files) {
+        Ok(loaded) => loaded,
+        Err(refusal) => return Err(refusal),
+    };
     match port.listen(command.port) {
         Ok(()) => {}
         Err(_) => return Err(Refusal::Port),

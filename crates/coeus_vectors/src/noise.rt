@@ -1,13 +1,14 @@
 //! Shapes, and the test of their noise. What the bounds are stands in the black-box cases.
 
+ghost use Rattle.std.specs.Prelude.{◌≡◌, IfOk};
+
 use crate::cases::{BadCase, Case};
 use crate::lines::{put, put_text};
 use co_noise::{Shape, TestFault, Tested, test};
-use std::alloc::Global;
 
-pub fn line(alloc: Global, call: &str, case: Case) -> Result<String, BadCase> {
-    let mut line = String::new(alloc);
-    match call {
+pub fn line(case: Case) -> Result<String, BadCase> {
+    let mut line = String::new(case.alloc);
+    match case.call() {
         "shape" => put_shape(&mut line, case)?,
         "test" => put_test(&mut line, case)?,
         _ => return Err(BadCase::Unfit),
@@ -33,7 +34,15 @@ pub fn tested(case: Case) -> Result<Tested, BadCase> {
     let Some(shape) = shape(case) else {
         return Err(BadCase::Unfit);
     };
-    match test(&shape) {
+    passed(&shape)
+}
+
+/// A shape that passes the test.
+#[tactic(auto, unfolding(co_noise::specs::Bounds::test_of))]
+pub fn passed(shape: &Shape) -> Result<Tested, BadCase>
+    ensures { IfOk result (λ t. t ≡ shape.now) }
+{
+    match test(shape) {
         Ok(tested) => Ok(tested),
         Err(_) => return Err(BadCase::Unfit),
     }

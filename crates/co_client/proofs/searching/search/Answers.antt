@@ -1,12 +1,19 @@
 use Rattle.co_client.proofs.Told.{told-at}
 use Rattle.co_client.proofs.Trails.{made-extends}
-use Rattle.co_client.proofs.Tells_plainly.{tells_plainly}
+use Rattle.co_client.proofs.Tells_plainly.{tells_plainly, tells_surely}
 use Rattle.co_client.proofs.Conducted.{untold-of}
 use Rattle.co_client.proofs.searching.search.Goals as goal
 
 pub returns-clause-plain : goal.returns-clause-plain
 returns-clause-plain g c = λ es e documents settings l held library honest.
     tells_plainly _ es _ _ (told-at _ _ _ _ _ c.conduct.ensures.told es e) documents settings l held library honest
+
+pub returns-clause-sure : goal.returns-clause-sure
+returns-clause-sure g c = λ es e documents settings l held library honest.
+    tells_surely _ es _ _ (told-at _ _ _ _ _ c.conduct.ensures.told es e) documents settings l held library honest
+
+pub returns-clause-earlier : goal.returns-clause-earlier
+returns-clause-earlier g c = λ es e. (told-at _ _ _ _ _ c.conduct.ensures.told es e).earlier
 
 pub returns-clause-planned : goal.returns-clause-planned
 returns-clause-planned g c = λ es e. (told-at _ _ _ _ _ c.conduct.ensures.told es e).follows

@@ -1,6 +1,6 @@
 -- Sums of no products have the degree.
 use Rattle.std.proofs.Common.{◌∙◌}
-use Rattle.co_matvec.proofs.Chained.{some-words}
+use Rattle.co_matvec.proofs.Numbered.{some-words}
 use Rattle.co_matvec.proofs.Partition.{empty-degrees}
 use Rattle.co_matvec.proofs.units.Sums.none.Goals as goal
 
