@@ -9,9 +9,9 @@
 //! (co_client).
 #![tactic(auto)]
 
-mod generator;
 mod limits;
 mod local;
+mod making;
 mod options;
 mod plain;
 mod program;

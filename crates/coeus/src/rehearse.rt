@@ -14,8 +14,8 @@ ghost use Rattle.coeus.specs.Trials.{IsReady, ReadyCause, IsJudged, JudgeCause};
 ghost use Rattle.coeus.specs.Trials.{Tries, AreTried, StopCause};
 ghost use Rattle.coeus.specs.Runs.{Ended};
 
-use crate::generator::{Made, QUERIES, make};
 use crate::local::answer;
+use crate::making::{Made, QUERIES, make};
 use crate::refusals::Refusal;
 use crate::words::{LocalCommand, RehearseCommand, join};
 use co_client::SearchFault;

@@ -3,7 +3,7 @@ use Rattle.std.specs.Prelude.{is_some}
 use mathlib.Core.Bool.{true≢false}
 use Rattle.co_text.specs.Titles.{IsTitle}
 use Rattle.coeus.proofs.Generated.{title_is}
-use Rattle.coeus.proofs.generator.document.Goals as goal
+use Rattle.coeus.proofs.making.document.Goals as goal
 
 pub unreachable-requires : goal.unreachable-requires
 unreachable-requires c =
