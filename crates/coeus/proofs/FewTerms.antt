@@ -211,8 +211,12 @@ spaced_count : (ws : List (List ℕ)) (before : List ℕ) → AllByRecursion IsW
 unfolding cut
 spaced_count [] before all = omega arith
 spaced_count (w ∷ ws) before all =
-    omega (arith, attach_space (is_word_break (32 ∷ before) ((w ++ spaced ws) ++ [])) 32 (cut is_word_break (32 ∷ before) (w ++ spaced ws) []) space_other,
-    word_first w (32 ∷ before) (spaced ws) all.0, spaced_count ws (onto w (32 ∷ before)) all.1)
+    omega (
+      arith,
+      attach_space (is_word_break (32 ∷ before) ((w ++ spaced ws) ++ [])) 32 (cut is_word_break (32 ∷ before) (w ++ spaced ws) []) space_other,
+      word_first w (32 ∷ before) (spaced ws) all.0,
+      spaced_count ws (onto w (32 ∷ before)) all.1,
+    )
 
 joined_count : (ws : List (List ℕ)) → AllByRecursion IsWord ws → counted (cut is_word_break [] (joined ws) []) ≤ length ws
 unfolding cut

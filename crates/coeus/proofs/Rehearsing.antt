@@ -192,9 +192,10 @@ tried_next p library place was left is before after within a t =
 tried_some : (p : RehearseCommand) (library : Parts) (queries : List (List (List ℕ))) (was is : Stream) (tally : Tally) → AreTriedFor p library queries was is tally
     → (tally.agree ≤ length queries) × (tally.unplaced ≤ length queries)
 tried_some p library queries was is tally a =
-    let count = trials_count p library 1 queries was is a.trials a.are in
-    (omega (arith, ap (λ (y : Tally). y.agree) a.tally_is, passing_few agrees a.trials, count),
-    omega (arith, ap (λ (y : Tally). y.unplaced) a.tally_is, passing_few is_unplaced a.trials, count))
+    let count = trials_count p library 1 queries was is a.trials a.are in (
+      omega (arith, ap (λ (y : Tally). y.agree) a.tally_is, passing_few agrees a.trials, count),
+      omega (arith, ap (λ (y : Tally). y.unplaced) a.tally_is, passing_few is_unplaced a.trials, count),
+    )
 
 pub tried_few : (p : RehearseCommand) (library : Parts) (place : ℕ) (was is : Stream) (tally : Tally) → place < 8
     → AreTriedFor p library (take place (queries_of p.number)) was is tally → (tally.agree ≤ place) × (tally.unplaced ≤ place)

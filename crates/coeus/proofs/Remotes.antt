@@ -66,22 +66,22 @@ pub sought : (p : SearchWords) (port : PortState) (was mid is : DialState) (rand
     → Sought p (devices random was port) (devices left is port) result
 sought p port was mid is random left result text same dialled clears faults beside extends planned whole going read refused asked plain earlier untold few =
     let of_query = λ (C : Search → Type 0) (x : C (asks text p.pick random mid.faults is)).
-        subst (λ (n : ℕ). C (asks (joined p.query) p.pick random n is)) faults (subst (λ (t : List ℕ). C (asks t p.pick random mid.faults is)) same x) in
+    subst (λ (n : ℕ). C (asks (joined p.query) p.pick random n is)) faults (subst (λ (t : List ℕ). C (asks t p.pick random mid.faults is)) same x) in
     let told = told_by was.exchanges mid.exchanges is.exchanges (IsSought p (devices random was port) (devices left is port) result) clears extends
-        (λ es all. record {
-          tells = record {
-            follows = planned es all;
-            whole = whole es all;
-            read = of_query (λ r. IfOk result (IsRead r es)) (read es all);
-            refused = of_query (λ r. IfErr result (IsCause r es)) (refused es all);
-            asked = λ s ts publishes passes. of_query (λ r. Asks r es s ts result left) (asked es all s ts publishes passes);
-            goes = of_query (λ r. GoesOn r es) (going es all);
-            few = of_query (λ r. IsForFew (length (distinct r.query)) result) few;
-            earlier = of_query (λ r. EndsFirst r es result) (earlier es all);
-          };
-          plain = λ documents settings l held built honest.
-              subst (λ (t : List ℕ). AnswersPlainly documents settings l (terms t) p.pick result) same (plain es all documents settings l held built honest);
-        }) in
+    (λ es all. record {
+      tells = record {
+        follows = planned es all;
+        whole = whole es all;
+        read = of_query (λ r. IfOk result (IsRead r es)) (read es all);
+        refused = of_query (λ r. IfErr result (IsCause r es)) (refused es all);
+        asked = λ s ts publishes passes. of_query (λ r. Asks r es s ts result left) (asked es all s ts publishes passes);
+        goes = of_query (λ r. GoesOn r es) (going es all);
+        few = of_query (λ r. IsForFew (length (distinct r.query)) result) few;
+        earlier = of_query (λ r. EndsFirst r es result) (earlier es all);
+      };
+      plain = λ documents settings l held built honest.
+          subst (λ (t : List ℕ). AnswersPlainly documents settings l (terms t) p.pick result) same (plain es all documents settings l held built honest);
+    }) in
     record {
       dialled = record { counted = beside.0 ∙ dialled.counted; last = beside.1 ∙ dialled.last };
       tells = told.0;

@@ -62,15 +62,15 @@ pub came : (library : Parts) (s : Served) (was mid is : PortState) → IsAccepte
 came library s was mid is accepted same serves waiting outputs waits are =
     let both = told_both was.tells.ended was.put was.tells.connected outputs are in
     let next = at_some (λ (w : List (List ℕ)). (first : List ℕ) × (rest : List (List ℕ)) × (w ≡ first ∷ rest) × (mid.tells.waiting ≡ Some rest) × (mid.left ≡ Some first))
-        was.tells.waiting waiting waits accepted.waiting in
+    was.tells.waiting waiting waits accepted.waiting in
     let empty : mid.put ≡ Some [] = at_some (λ (put : List ℕ). mid.put ≡ Some []) was.put both.1 both.3 accepted.output in
     let earlier : mid.tells.ended ≡ Some outputs =
-        at_some (λ (put : List ℕ). mid.tells.ended ≡ Some (ended_with was.tells.connected both.0 put)) was.put both.1 both.3
-        (at_some (λ (os : List (List ℕ)). IfSome was.put (λ put. mid.tells.ended ≡ Some (ended_with was.tells.connected os put))) was.tells.ended both.0 both.2 accepted.ended)
-        ∙ ap Some both.4 in
+    at_some (λ (put : List ℕ). mid.tells.ended ≡ Some (ended_with was.tells.connected both.0 put)) was.put both.1 both.3
+    (at_some (λ (os : List (List ℕ)). IfSome was.put (λ put. mid.tells.ended ≡ Some (ended_with was.tells.connected os put))) was.tells.ended both.0 both.2 accepted.ended)
+    ∙ ap Some both.4 in
     let talk : ServesLibrary library next.0 is.left [] is.put s.requests s.ended =
-        at_some (λ (put : List ℕ). ServesLibrary library next.0 is.left put is.put s.requests s.ended) mid.put [] empty
-        (at_some (λ (input : List ℕ). IfSome mid.put (λ put. ServesLibrary library input is.left put is.put s.requests s.ended)) mid.left next.0 next.4 serves) in
+    at_some (λ (put : List ℕ). ServesLibrary library next.0 is.left put is.put s.requests s.ended) mid.put [] empty
+    (at_some (λ (input : List ℕ). IfSome mid.put (λ put. ServesLibrary library input is.left put is.put s.requests s.ended)) mid.left next.0 next.4 serves) in
     let output = told_output _ _ _ _ next.0 is.left [] is.put s.requests s.ended talk.serves in
     let connection : Connection = record { input = next.0; output = output.0; served = s } in
     record {
@@ -247,9 +247,11 @@ lines_more number (x ∷ xs) s =
 pub front_more : (was mid is : Option (List ℕ)) (p q : List ℕ) → TookWhole was mid p → TookPrefix mid is q → TookPrefix was is (p ++ q)
 front_more None mid is p q first second = subst (λ (m : Option (List ℕ)). TookPrefix m is q) first second
 front_more (Some old) mid is p q first second =
-    let more = subst (λ (m : Option (List ℕ)). TookPrefix m is q) first second in
-    (length p + more.0, omega (arith, length-append p q, more.1),
-    more.2 ∙ ap Some (append_assoc old p (take more.0 q) ∙ ap (λ (t : List ℕ). old ++ t) (sym (take-append-add p q more.0))))
+    let more = subst (λ (m : Option (List ℕ)). TookPrefix m is q) first second in (
+      length p + more.0,
+      omega (arith, length-append p q, more.1),
+      more.2 ∙ ap Some (append_assoc old p (take more.0 q) ∙ ap (λ (t : List ℕ). old ++ t) (sym (take-append-add p q more.0))),
+    )
 
 -- ---- so many
 
@@ -316,23 +318,29 @@ all_served library number connections was is out_was out_is f done = (f.served, 
 pub next_ended : (library : Parts) (number connections : ℕ) (was mid is : PortState) (out_was out_mid out_is : SinkState) (refusal : Refusal) → number < connections
     → SoFar library number connections was mid out_was out_mid
     → ServesNext library (number + 1) mid is out_mid out_is (Err refusal) → ServesSome library connections was is out_was out_is (Err refusal)
-next_ended library number connections was mid is out_was out_mid out_is refusals.Output below f n =
-    (f.served ++ n.0 ∷ [], omega (arith, more_count f.served number n.0 f.count, below), record {
-      serves = served_more library f.served (n.0 ∷ []) was mid is f.so_far.serves n.1.serves;
-      accepted = more_accepted f.served n.0 was.tells mid.tells is.tells f.so_far.accepted n.1.accepted;
-      took = record {
-        front = subst (λ (t : List ℕ). TookPrefix out_was.bytes out_is.bytes t) (sym (next_line f.served number n.0 f.count))
-            (front_more out_was.bytes out_mid.bytes out_is.bytes (connection_lines 1 f.served) (connection_line (number + 1) n.0) f.so_far.took n.2.front);
-        rose = omega (arith, f.out_faults, n.2.rose);
-      };
-    })
-next_ended library number connections was mid is out_was out_mid out_is refusals.Port below f n =
-    (f.served, omega (arith, f.count, below), record {
-      serves = served_since library f.served was mid is f.so_far.serves n.tells n.put n.take_faults n.put_faults;
-      accepted = subst (λ (t : PortTells). Accepted (length f.served + 1) was.tells t) (sym n.tells)
-          (accepted_more (length f.served) was.tells mid.tells (record mid.tells { accepts = one_more mid.tells.accepts }) f.so_far.accepted
-          (record { listening = f.so_far.accepted.listening; listens = refl; last_port = refl; accepts_are = refl }));
-      rose = omega (arith, f.port_faults, n.rose);
-      took = subst (λ (o : SinkState). TookWhole out_was.bytes o.bytes (connection_lines 1 f.served)) (sym n.out) f.so_far.took;
-    })
+next_ended library number connections was mid is out_was out_mid out_is refusals.Output below f n = (
+  f.served ++ n.0 ∷ [],
+  omega (arith, more_count f.served number n.0 f.count, below),
+  record {
+    serves = served_more library f.served (n.0 ∷ []) was mid is f.so_far.serves n.1.serves;
+    accepted = more_accepted f.served n.0 was.tells mid.tells is.tells f.so_far.accepted n.1.accepted;
+    took = record {
+      front = subst (λ (t : List ℕ). TookPrefix out_was.bytes out_is.bytes t) (sym (next_line f.served number n.0 f.count))
+          (front_more out_was.bytes out_mid.bytes out_is.bytes (connection_lines 1 f.served) (connection_line (number + 1) n.0) f.so_far.took n.2.front);
+      rose = omega (arith, f.out_faults, n.2.rose);
+    };
+  },
+)
+next_ended library number connections was mid is out_was out_mid out_is refusals.Port below f n = (
+  f.served,
+  omega (arith, f.count, below),
+  record {
+    serves = served_since library f.served was mid is f.so_far.serves n.tells n.put n.take_faults n.put_faults;
+    accepted = subst (λ (t : PortTells). Accepted (length f.served + 1) was.tells t) (sym n.tells)
+        (accepted_more (length f.served) was.tells mid.tells (record mid.tells { accepts = one_more mid.tells.accepts }) f.so_far.accepted
+        (record { listening = f.so_far.accepted.listening; listens = refl; last_port = refl; accepts_are = refl }));
+    rose = omega (arith, f.port_faults, n.rose);
+    took = subst (λ (o : SinkState). TookWhole out_was.bytes o.bytes (connection_lines 1 f.served)) (sym n.out) f.so_far.took;
+  },
+)
 next_ended library number connections was mid is out_was out_mid out_is refusal below f n = absurd n

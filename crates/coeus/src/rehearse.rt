@@ -56,7 +56,11 @@ pub struct Tally {
 }
 
 // The library of the made documents, made ready for replies.
-fn publish_made(alloc: Global, corpus: &Corpus, command: &RehearseCommand) -> Result<Loaded, Refusal>
+fn publish_made(
+    alloc: Global,
+    corpus: &Corpus,
+    command: &RehearseCommand,
+) -> Result<Loaded, Refusal>
     requires { corpus.now ≡ documents_of command.now.number }
     ensures ok { IfOk result (λ loaded. IsMadeLibrary command.now loaded) }
     ensures cause { IfErr result (ReadyCause command.now) }
@@ -138,10 +142,14 @@ fn judge<T: Runs, R: Rng>(
 {
     match answer(rt, alloc, loaded, search, rng) {
         Ok(text) => Ok((text.as_slice() == plain, false)),
-        Err(Refusal::Search(SearchFault::NoPlacement {
-            documents: _documents,
-            buckets: _buckets,
-        })) => Ok((false, true)),
+        Err(
+            Refusal::Search(
+                SearchFault::NoPlacement {
+                    documents: _documents,
+                    buckets: _buckets,
+                },
+            ),
+        ) => Ok((false, true)),
         Err(refusal) => Err(refusal),
     }
 }
