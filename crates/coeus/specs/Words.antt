@@ -9,7 +9,7 @@ use Rattle.co_noise.specs.Shapes.{Numbers, numbers, shape_of, is_within}
 use Rattle.co_library.specs.declared.settings.Settings.{Settings}
 use Rattle.coeus.specs.declared.options.Options.{Options}
 use Rattle.coeus.specs.declared.words.RehearseCommand.{RehearseCommand}
-use Rattle.coeus.specs.declared.limits.TheConstants.{DEFAULT_DEGREE, DEFAULT_TERMS, DEFAULT_HITS, DEFAULT_SALT, DEFAULT_CHUNKS, DEFAULT_PICK, DEFAULT_WORKERS, DEFAULT_PORT, DEFAULT_CONNECTIONS, MAX_PICK, MAX_WORKERS, MAX_PORT, MAX_CONNECTIONS, SHORT_DIGITS, LONG_DIGITS}
+use Rattle.coeus.specs.declared.limits.TheConstants.{DEFAULT_DEGREE, DEFAULT_TERMS, DEFAULT_HITS, DEFAULT_SALT, DEFAULT_CHUNKS, DEFAULT_PICK, DEFAULT_WORKERS, DEFAULT_PORT, DEFAULT_CONNECTIONS, MAX_PICK, MAX_WORKERS, MAX_PORT, MAX_CONNECTIONS, SHORT_DIGITS}
 
 -- one to so many decimal digits
 abbrev pub are_digits : ℕ → List ℕ → Bool
@@ -30,7 +30,7 @@ short_number w = below (2 ^ 32) (digits_number SHORT_DIGITS w)
 
 -- a number of 64 bits, of at most twenty digits
 unfoldable pub long_number : List ℕ → Option ℕ
-long_number w = below (2 ^ 64) (digits_number LONG_DIGITS w)
+long_number w = below (2 ^ 64) (digits_number 20 w)
 
 -- a positional word doesn't begin with a dash
 abbrev pub begins_with_dash : List ℕ → Bool
