@@ -27,7 +27,7 @@ use Rattle.coeus.proofs.Rehearsing.{rehearse_due}
 use Rattle.coeus.proofs.Remotes.{search_due, search_placed}
 use Rattle.coeus.specs.declared.limits.TheConstants.{MAX_CORPUS}
 use Rattle.coeus.specs.declared.refusals.Refusal.{Refusal}
-use Rattle.coeus.specs.declared.refusals.Refusal.TheVariants.{Corpus, CorpusTooLong, Publish, Test, Keywords, Search, Dial, Port, File, Output, Memory}
+use Rattle.coeus.specs.declared.refusals.Refusal.TheVariants.{Corpus, CorpusTooLong, Publish, Test, Keywords, Search, File, Output, Memory}
 use Rattle.coeus.specs.Words.{Spoken, SpokenPlain, SpokenImport, SpokenShape, SpokenLocal, SpokenServe, SpokenSearch, SpokenRehearse, SpokenWrong, PlainWords, ImportWords, spoken}
 use Rattle.coeus.specs.Outside.{Outside, FilesState, SinkState, HasNoFault}
 use Rattle.coeus.specs.Refusals.{status_of, status_of_publishing, status_of_search, text_of, Says}

@@ -1,5 +1,5 @@
 -- How many terms there are in words of a letter and digits with single spaces between them: at most one a word.
-use Rattle.std.proofs.Common.{◌≡◌, ◌<◌, ◌≤◌, ℕ, zero, suc, ◌+◌, ◌-◌, Bool, true, false, not, if◌then◌else◌, ◌&&◌, ◌||◌, List, [], ◌∷◌, ◌++◌, length, map, ◌⊎◌, inl, inr, filter, refl, sym, ap, subst, ◌∙◌, arith, append_assoc, append-nil, slice_index_or, unwrap_or}
+use Rattle.std.proofs.Common.{◌≡◌, ◌<◌, ◌≤◌, ℕ, zero, suc, ◌+◌, ◌-◌, Bool, true, false, not, if◌then◌else◌, ◌||◌, List, [], ◌∷◌, ◌++◌, length, map, ◌⊎◌, inl, inr, filter, refl, sym, ap, subst, ◌∙◌, arith, unwrap_or}
 use Rattle.std.specs.Prelude.{encode_utf8_all, chars}
 use Rattle.std.specs.List.{list_any, AllByRecursion}
 use Rattle.std.specs.Str.{IsAscii}
@@ -12,13 +12,13 @@ use Rattle.ucd_breaks.specs.WordBreak.{word_break}
 use Rattle.ucd_breaks.specs.declared.WordBreak.{WordBreak}
 use Rattle.ucd_breaks.specs.declared.WordBreak.TheVariants.{ALetter, Numeric}
 use Rattle.ucd_emoji.specs.Binary.{is_extended_pictographic}
-use Rattle.unicode_segmentation.specs.Segments.{Rule, prepend, cut, segments, is_alphanumeric, has_alphanumeric}
-use Rattle.unicode_segmentation.specs.Word.{words, is_word_break, is_ignored, is_ah_letter, is_hebrew_letter, is_numeric, break_by_pair, joins, joins_flag, significant, value_at}
+use Rattle.unicode_segmentation.specs.Segments.{prepend, cut, segments, is_alphanumeric, has_alphanumeric}
+use Rattle.unicode_segmentation.specs.Word.{words, is_word_break, is_ignored, is_ah_letter, is_hebrew_letter, break_by_pair, joins, joins_flag, significant, value_at}
 use Rattle.unicode_segmentation.proofs.AsciiLemmas.{word_break-ASCII, is_alphanumeric_ascii}
 use Rattle.unicode_segmentation.proofs.BoolLemmas.{and-false}
 use Rattle.unicode_segmentation.proofs.SegmentsLemmas.{length-filter-le}
 use Rattle.unicode_segmentation.proofs.WordLemmas.{is_word_break-inside, value_at-kept}
-use Rattle.co_text.specs.Terms.{terms, terms_of, folded, is_short}
+use Rattle.co_text.specs.Terms.{terms, folded, is_short}
 use Rattle.coeus.specs.Words.{spaced, joined}
 use Rattle.coeus.proofs.Generated.{IsWord, ascii_more, joined_ascii}
 
@@ -149,9 +149,6 @@ attach_space false c [] is = omega (arith, filter_left (c ∷ []) [] (any_other 
 attach_space false c (p ∷ ps) is = omega (arith, same_count (c ∷ p) p ps (any_other c p is))
 
 -- ---- cut
-
-rule : Rule
-rule = is_word_break
 
 -- the first piece begins with the first character
 pub record BeginsWith (c : ℕ) (ps : List (List ℕ)) : Type 0 where

@@ -1,6 +1,6 @@
 -- The texts that the generator makes: their bytes and their sizes.
-use Rattle.std.proofs.Common.{◌≡◌, ◌<◌, ◌≤◌, ◌^◌, ℕ, zero, suc, ◌+◌, ◌*◌, ◌%◌, ◌/◌, List, [], ◌∷◌, ◌++◌, length, true, refl, sym, ap, subst, ◌∙◌, arith, length-append, slice_index, min, Bool, ◌&&◌}
-use Rattle.std.specs.Prelude.{codes, decimal, All, IsUtf8}
+use Rattle.std.proofs.Common.{◌≡◌, ◌<◌, ◌≤◌, ◌^◌, ℕ, zero, suc, ◌+◌, ◌*◌, ◌/◌, List, [], ◌∷◌, ◌++◌, length, true, refl, sym, ap, subst, arith, length-append, min, ◌&&◌}
+use Rattle.std.specs.Prelude.{codes, decimal, All}
 use Rattle.std.specs.List.{list_all, AllByRecursion}
 use Rattle.std.specs.Str.{IsAscii}
 use Rattle.std.specs.Str.Parse.{AllDigits}
@@ -12,7 +12,6 @@ use Rattle.std.proofs.lemmas.List.{length_push}
 use Rattle.std.proofs.lemmas.List.Elements.{All-nil, All-push, All-from_recursion}
 use Rattle.std.proofs.lemmas.Str.Ascii.{IsAscii-from_all}
 use Rattle.co_text.specs.Titles.{is_plain, IsTitle}
-use Rattle.co_corpus.specs.declared.documents.Document.{Document}
 use Rattle.co_corpus.specs.Documents.{IsDocument, IsCorpus}
 use Rattle.coeus.specs.Words.{spaced, joined}
 use Rattle.coeus.specs.Generator.{next_state, draw, word_draw, words_draw, document_draw, documents_draw, queries_draw, documents_of, queries_of}

@@ -1,6 +1,6 @@
 -- What `rehearse` says and leaves, from what its trials gave.
-use Rattle.std.proofs.Common.{◌≡◌, ◌⊎◌, ◌<◌, ◌≤◌, ℕ, zero, suc, ◌+◌, Bool, true, false, if◌then◌else◌, List, [], ◌∷◌, ◌++◌, length, map, take, drop, Some, None, Ok, Err, refl, sym, ap, subst, ◌∙◌, inl, inr, arith, append-nil, length-append}
-use Rattle.std.specs.Prelude.{Result, IfErr, slice_index_or, All}
+use Rattle.std.proofs.Common.{◌≡◌, ◌<◌, ◌≤◌, ℕ, zero, suc, ◌+◌, Bool, true, false, if◌then◌else◌, List, [], ◌∷◌, ◌++◌, length, map, take, drop, Ok, Err, refl, sym, ap, subst, ◌∙◌, arith, length-append}
+use Rattle.std.specs.Prelude.{Result, slice_index_or}
 use Rattle.std.specs.Str.{bytes_eq}
 use Rattle.std.proofs.lemmas.Slice.Eq.{bytes_eq-Decides}
 use Rattle.std.proofs.lemmas.List.{get_or-map, length-map, length-take-le, take_more, take_all}
@@ -9,7 +9,6 @@ use Rattle.co_noise.specs.Bounds.{test_of}
 use Rattle.co_text.specs.Terms.{terms, distinct}
 use Rattle.co_text.specs.Printed.{printed}
 use Rattle.co_text.specs.declared.found.Found.{Found}
-use Rattle.co_tfidf.specs.Found.{found}
 use Rattle.co_library.specs.Libraries.{Parts}
 use Rattle.co_library.specs.Refusals.{IsRefused}
 use Rattle.co_library.specs.declared.publishing.PublishFault.{PublishFault}
@@ -22,10 +21,10 @@ use Rattle.co_client.specs.declared.fault.SearchFault.{SearchFault}
 use Rattle.co_client.specs.declared.fault.SearchFault.TheVariants as searching
 use Rattle.coeus.specs.Words.{SpokenRehearse, joined}
 use Rattle.coeus.specs.Outside.{Outside, HasNoFault}
-use Rattle.coeus.specs.Refusals.{status_of, status_of_refused, flat}
+use Rattle.coeus.specs.Refusals.{status_of, status_of_refused}
 use Rattle.coeus.specs.Generator.{documents_of, queries_of}
 use Rattle.coeus.specs.Locals.{IsSearched}
-use Rattle.coeus.specs.Rehearsals.{rehearse_settings, IsMadeLibrary, words_asked, plain_text, Trial, is_printed_as, agrees, has_no_placement, is_unplaced, IsTrial, AreTrials, passing, plain_of, rehearse_lines, RehearseAnswer, StopsAt, RehearseCause, CanBeRehearsed}
+use Rattle.coeus.specs.Rehearsals.{rehearse_settings, IsMadeLibrary, words_asked, plain_text, Trial, is_printed_as, agrees, has_no_placement, is_unplaced, IsTrial, AreTrials, passing, rehearse_lines, RehearseAnswer, StopsAt, RehearseCause, CanBeRehearsed}
 use Rattle.coeus.specs.Trials.{ReadyCause, IsJudged, JudgeCause, tally_of, tallied, IsTried, AreTriedFor, AreTried, StopCause}
 use Rattle.coeus.specs.declared.words.RehearseCommand.{RehearseCommand}
 use Rattle.coeus.specs.declared.rehearse.Tally.{Tally}

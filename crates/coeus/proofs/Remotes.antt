@@ -1,10 +1,10 @@
 -- How `search` ends, by what its dial and its search gave.
-use Rattle.std.proofs.Common.{◌≡◌, ◌⊎◌, ◌<◌, ℕ, List, [], ◌∷◌, length, Option, Some, None, Ok, Err, refl, sym, ap, subst, ◌∙◌, inl, inr, arith, IfSome}
+use Rattle.std.proofs.Common.{◌≡◌, ◌⊎◌, ℕ, List, length, Option, Some, None, Ok, Err, refl, sym, ap, subst, ◌∙◌, inl, inr, arith, IfSome}
 use Rattle.std.specs.Prelude.{Result, IsSome, IfOk, IfErr}
 use mathlib.Core.Bool.{true≢false}
 use Rattle.rand_core.specs.Stream.{Stream}
 use Rattle.co_link.specs.Causes.{Rose}
-use Rattle.co_link.specs.Exchanges.{Clears, LinkCall}
+use Rattle.co_link.specs.Exchanges.{Clears}
 use Rattle.co_link.specs.declared.messages.Exchange.{Exchange}
 use Rattle.co_noise.specs.Shapes.{Numbers}
 use Rattle.co_noise.specs.Bounds.{test_of}

@@ -1,9 +1,9 @@
 -- How `serve` ends, by what its steps gave.
-use Rattle.std.proofs.Common.{◌≡◌, ◌≤◌, ◌<◌, ◌+◌, ◌⊎◌, ℕ, zero, suc, List, [], ◌∷◌, length, Option, Some, None, Ok, Err, refl, sym, ap, subst, ◌∙◌, inl, inr, arith, true, false}
+use Rattle.std.proofs.Common.{◌≡◌, ◌≤◌, ◌<◌, ◌+◌, ℕ, List, [], length, Option, Ok, Err, refl, sym, ap, subst, ◌∙◌, inl, inr, arith}
 use Rattle.std.specs.Prelude.{Result, Bool, IsSome, option_map, option_and_then}
 use Rattle.rand_core.specs.Stream.{Stream}
 use Rattle.co_link.specs.Causes.{Rose}
-use Rattle.co_link.specs.Files.{Folder, file_at, IsLonger}
+use Rattle.co_link.specs.Files.{IsLonger}
 use Rattle.co_link.specs.Ports.{PortTells, Listens, ended_with}
 use Rattle.co_link.specs.declared.files.FileKind.TheVariants.{Read}
 use Rattle.co_link.specs.declared.sink.Failed.{Failed}
@@ -20,7 +20,7 @@ use Rattle.coeus.specs.Refusals.{status_of}
 use Rattle.coeus.specs.Locals.{CanBeServed, OpenCause}
 use Rattle.coeus.specs.Connections.{AreServed, Calls, raised, connection_lines}
 use Rattle.coeus.specs.Served.{Accepted, ServesSome}
-use Rattle.coeus.specs.Serving.{ServeDue, CallsPort, uncalled, called}
+use Rattle.coeus.specs.Serving.{ServeDue, uncalled, called}
 use Rattle.coeus.specs.Runs.{Uses, Ended, RefusedBy}
 use Rattle.coeus.proofs.Outcomes.{differ, same_value}
 use Rattle.coeus.proofs.Searching.{told_bytes}

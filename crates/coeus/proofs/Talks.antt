@@ -1,6 +1,6 @@
 -- Connections that were served, and one more.
-use Rattle.std.proofs.Common.{◌≡◌, ◌≤◌, ◌<◌, ◌+◌, ◌-◌, ◌^◌, ◌++◌, ℕ, zero, suc, List, [], ◌∷◌, Bool, true, false, length, map, min, Option, Some, None, refl, sym, ap, subst, ◌∙◌, append_assoc, append-nil, arith, IfSome, Ok, Err}
-use Rattle.std.specs.Prelude.{All, filter, option_map, option_and_then, take, IsSome}
+use Rattle.std.proofs.Common.{◌≡◌, ◌≤◌, ◌<◌, ◌+◌, ◌++◌, ℕ, zero, suc, List, [], ◌∷◌, Bool, true, length, map, Option, Some, None, refl, sym, ap, subst, ◌∙◌, append_assoc, append-nil, arith, IfSome, Ok, Err}
+use Rattle.std.specs.Prelude.{All, filter, option_map, option_and_then, take}
 use Rattle.std.proofs.Math.Seq.{take-append-add}
 use Rattle.std.proofs.lemmas.List.{map-append, length-append}
 use Rattle.std.proofs.lemmas.List.Elements.{filter-append, All-append}
@@ -18,7 +18,7 @@ use Rattle.co_serving.specs.declared.ended.Served.{Served}
 use Rattle.co_connections.specs.Serving.{ServesLibrary}
 use Rattle.coeus.specs.Outside.{PortState, SinkState}
 use Rattle.coeus.specs.Connections.{Connection, IsServed, Came, AreServed, RoseBy, outputs_of, raised, is_read_fault, is_write_fault, connection_line, connection_lines}
-use Rattle.coeus.specs.Served.{Accepted, ServesOne, AcceptFails, ServedSoFar, ServesNext, ServesSome}
+use Rattle.coeus.specs.Served.{Accepted, ServesOne, ServedSoFar, ServesNext, ServesSome}
 use Rattle.coeus.specs.declared.refusals.Refusal.{Refusal}
 use Rattle.coeus.specs.declared.refusals.Refusal.TheVariants as refusals
 use Rattle.coeus.proofs.Telling.{took_nothing, took_more}

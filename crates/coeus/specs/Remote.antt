@@ -1,7 +1,7 @@
 -- The command `search`: what it prints, and when it refuses.
 use Rattle.std.specs.Prelude.{◌≡◌, ◌≤◌, ℕ, List, length, Option, Some, IsSome, IfSome, Result, Ok, Err, IfErr}
 use Rattle.co_link.specs.Causes.{Rose}
-use Rattle.co_link.specs.Exchanges.{DialCall, IsDialled, Clears}
+use Rattle.co_link.specs.Exchanges.{IsDialled, Clears}
 use Rattle.co_link.specs.declared.link.LinkFault.TheVariants.{Failed}
 use Rattle.co_link.specs.declared.messages.Exchange.{Exchange}
 use Rattle.co_noise.specs.Bounds.{test_of}

@@ -62,9 +62,10 @@ Keeps (SpokenImport i) was is =
     (name : List ℕ) → name ≢ i.library → file_at is name ≡ file_at was name
 Keeps command was is = is ≡ was
 
--- what it takes of the devices: a search over a library draws random words, and so does a rehearsal; a
--- search over a dial draws and makes at most one dial, of its host and port; serving makes at most one call to listen,
--- on its port, and at most so many to accept as its connections; any other command leaves them all
+-- what it takes of the devices: a search over a library draws random words, and so does a rehearsal;
+-- a search over a dial draws and makes at most one dial, of its host and port; serving makes at most
+-- one call to listen, on its port, and at most so many to accept as its connections; any other
+-- command leaves them all
 abbrev pub Uses : Spoken → Devices → Devices → Type 0
 Uses (SpokenLocal p) was is = is ≡ record was { random = is.random }
 Uses (SpokenRehearse p) was is = is ≡ record was { random = is.random }

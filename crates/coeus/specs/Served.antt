@@ -1,5 +1,5 @@
 -- The steps of `serve`: one connection, and so many.
-use Rattle.std.specs.Prelude.{◌≡◌, ◌≤◌, ◌<◌, ◌+◌, ◌++◌, [], ◌∷◌, ℕ, List, length, true, Result, Ok, Err}
+use Rattle.std.specs.Prelude.{◌≡◌, ◌≤◌, ◌<◌, ◌+◌, [], ◌∷◌, ℕ, List, length, true, Result, Ok, Err}
 use Rattle.co_link.specs.Causes.{Rose, one_more}
 use Rattle.co_link.specs.Ports.{PortTells}
 use Rattle.co_serving.specs.declared.ended.Served.{Served}

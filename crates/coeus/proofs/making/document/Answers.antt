@@ -1,5 +1,4 @@
-use Rattle.std.proofs.Common.{◌≡◌, true, false, None, sym, subst, ap, ◌∙◌}
-use Rattle.std.specs.Prelude.{is_some}
+use Rattle.std.proofs.Common.{sym, subst}
 use mathlib.Core.Bool.{true≢false}
 use Rattle.co_text.specs.Titles.{IsTitle}
 use Rattle.coeus.proofs.Generated.{title_is}
