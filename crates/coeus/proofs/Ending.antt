@@ -23,11 +23,12 @@ use Rattle.co_client.specs.declared.fault.SearchFault.TheVariants as searching
 use Rattle.coeus.proofs.Outcomes.{differ, same_value}
 use Rattle.coeus.proofs.Searching.{local_due, local_placed}
 use Rattle.coeus.proofs.Serves.{serve_due}
+use Rattle.coeus.proofs.Rehearsing.{rehearse_due}
 use Rattle.coeus.proofs.Remotes.{search_due, search_placed}
 use Rattle.coeus.specs.declared.limits.TheConstants.{MAX_CORPUS}
 use Rattle.coeus.specs.declared.refusals.Refusal.{Refusal}
 use Rattle.coeus.specs.declared.refusals.Refusal.TheVariants.{Corpus, CorpusTooLong, Publish, Test, Keywords, Search, File, Output, Memory}
-use Rattle.coeus.specs.Words.{Spoken, SpokenPlain, SpokenImport, SpokenShape, SpokenLocal, SpokenServe, SpokenSearch, SpokenWrong, PlainWords, ImportWords, spoken}
+use Rattle.coeus.specs.Words.{Spoken, SpokenPlain, SpokenImport, SpokenShape, SpokenLocal, SpokenServe, SpokenSearch, SpokenRehearse, SpokenWrong, PlainWords, ImportWords, spoken}
 use Rattle.coeus.specs.Outside.{Outside, FilesState, SinkState, HasNoFault}
 use Rattle.coeus.specs.Refusals.{status_of, status_of_publishing, status_of_search, text_of, Says}
 use Rattle.coeus.specs.Searches.{HasCorpus, IsToldCorpus, ReadCause, TextCause, CanBeSearched}
@@ -140,6 +141,7 @@ due_answered (SpokenShape s) was is a due d = sym (d ∙ passed (test_of s) a.pa
 due_answered (SpokenLocal p) was is a due d = sym (local_placed p was is a due d)
 due_answered (SpokenServe p) was is a due d = sym d.1
 due_answered (SpokenSearch p) was is a due d = sym (search_placed p was is a due d)
+due_answered (SpokenRehearse p) was is a due d = sym d.1
 due_answered SpokenWrong was is a due d = absurd a.prints
 
 pub due_refused : (command : Spoken) (was is : Outside) (refusal : Refusal) → HasNoFault was is → RefusedBy command was is refusal
@@ -151,6 +153,7 @@ due_refused (SpokenShape s) was is refusal kept r due d =
 due_refused (SpokenLocal p) was is refusal kept r due d = local_due p was is refusal kept r due d
 due_refused (SpokenServe p) was is refusal kept r due d = inr (serve_due p was is refusal kept r d.0)
 due_refused (SpokenSearch p) was is refusal kept r due d = search_due p was is refusal kept r due d
+due_refused (SpokenRehearse p) was is refusal kept r due d = inr (rehearse_due p was is refusal kept r d.0)
 due_refused SpokenWrong was is Output kept r due d = absurd (kept.out r.took.rose)
 due_refused SpokenWrong was is refusal kept r due d = inl (ap status_of r.cause ∙ sym d)
 
@@ -164,6 +167,7 @@ keeps_all (SpokenShape s) was is same = same
 keeps_all (SpokenLocal p) was is same = same
 keeps_all (SpokenServe p) was is same = same
 keeps_all (SpokenSearch p) was is same = same
+keeps_all (SpokenRehearse p) was is same = same
 keeps_all SpokenWrong was is same = same
 
 refused_keeps : (command : Spoken) (was is : Outside) (refusal : Refusal) → RefusedBy command was is refusal → Keeps command was.files.held is.files.held

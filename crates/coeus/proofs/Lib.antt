@@ -1,8 +1,11 @@
 pub mod Drawing
 pub mod Ending
+pub mod FewTerms
+pub mod Generated
 pub mod Importing
 pub mod Keywords
 pub mod Outcomes
+pub mod Rehearsing
 pub mod Remotes
 pub mod Rest
 pub mod Searching

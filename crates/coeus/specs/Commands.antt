@@ -1,14 +1,15 @@
 -- What the program's own types stand for.
 use Rattle.std.specs.Prelude.{◌≤◌, map, option_map, string_bytes}
-use Rattle.coeus.specs.Words.{Rest, PlainWords, ImportWords, LocalWords, ServeWords, SearchWords, Spoken, SpokenPlain, SpokenImport, SpokenShape, SpokenLocal, SpokenServe, SpokenSearch, SpokenWrong}
+use Rattle.coeus.specs.Words.{Rest, PlainWords, ImportWords, LocalWords, ServeWords, SearchWords, Spoken, SpokenPlain, SpokenImport, SpokenShape, SpokenLocal, SpokenServe, SpokenSearch, SpokenRehearse, SpokenWrong}
 use Rattle.coeus.specs.declared.options.OptionsAndQuery.{OptionsAndQuery}
 use Rattle.coeus.specs.declared.words.PlainCommand.{PlainCommand}
 use Rattle.coeus.specs.declared.words.ImportCommand.{ImportCommand}
 use Rattle.coeus.specs.declared.words.LocalCommand.{LocalCommand}
 use Rattle.coeus.specs.declared.words.ServeCommand.{ServeCommand}
 use Rattle.coeus.specs.declared.words.SearchCommand.{SearchCommand}
+use Rattle.coeus.specs.declared.words.RehearseCommand.{RehearseCommand}
 use Rattle.coeus.specs.declared.words.Command.{Command}
-use Rattle.coeus.specs.declared.words.Command.TheVariants.{Plain, Import, Shape, Local, Serve, Search, Wrong}
+use Rattle.coeus.specs.declared.words.Command.TheVariants.{Plain, Import, Shape, Local, Serve, Search, Rehearse, Wrong}
 
 abbrev pub rest_shown : OptionsAndQuery → Rest
 rest_shown r =
@@ -57,6 +58,7 @@ command_shown (Shape s) = SpokenShape s
 command_shown (Local l) = SpokenLocal (local_shown l)
 command_shown (Serve s) = SpokenServe (serve_shown s)
 command_shown (Search s) = SpokenSearch (search_shown s)
+command_shown (Rehearse r) = SpokenRehearse r
 command_shown Wrong = SpokenWrong
 
 -- the pick and the workers of a search over a library are 1 to 64
@@ -77,6 +79,11 @@ pub record IsWithinSearching (s : SearchCommand) : Type 0 where
   pub least : 1 ≤ s.pick
   pub most : s.pick ≤ 64
 
+-- the workers of a rehearsal are 1 to 64
+pub record IsWithinRehearsals (r : RehearseCommand) : Type 0 where
+  pub least : 1 ≤ r.workers
+  pub most : r.workers ≤ 64
+
 -- those of the command, where it is one
 abbrev pub AreWithinRanges : Command → Type 0
 AreWithinRanges (Plain p) = Unit {0}
@@ -85,4 +92,5 @@ AreWithinRanges (Shape s) = Unit {0}
 AreWithinRanges (Local l) = IsWithinRanges l
 AreWithinRanges (Serve s) = IsWithinServing s
 AreWithinRanges (Search s) = IsWithinSearching s
+AreWithinRanges (Rehearse r) = IsWithinRehearsals r
 AreWithinRanges Wrong = Unit {0}

@@ -7,6 +7,9 @@ pub mod Searches
 pub mod Imports
 pub mod ShapeLines
 pub mod Locals
+pub mod Generator
+pub mod Rehearsals
+pub mod Trials
 pub mod Connections
 pub mod Serving
 pub mod Served

@@ -3,7 +3,7 @@ use Rattle.std.specs.Prelude.{◌≡◌, ◌≢◌, ◌⊎◌, ℕ, List, Option
 use Rattle.co_link.specs.Files.{Folder, file_at}
 use Rattle.co_link.specs.declared.files.FileKind.TheVariants.{Write}
 use Rattle.co_noise.specs.Bounds.{test_of}
-use Rattle.coeus.specs.Words.{Spoken, SpokenPlain, SpokenImport, SpokenShape, SpokenLocal, SpokenServe, SpokenSearch, SpokenWrong, spoken}
+use Rattle.coeus.specs.Words.{Spoken, SpokenPlain, SpokenImport, SpokenShape, SpokenLocal, SpokenServe, SpokenSearch, SpokenRehearse, SpokenWrong, spoken}
 use Rattle.coeus.specs.Outside.{Outside, Devices, SinkState, Took, TookFront, HasNoFault}
 use Rattle.coeus.specs.Refusals.{status_of, text_of, Says}
 use Rattle.coeus.specs.Searches.{PlainAnswer, PlainCause, CanBeSearched}
@@ -12,6 +12,7 @@ use Rattle.coeus.specs.ShapeLines.{shape_text, status_of_test}
 use Rattle.coeus.specs.Locals.{LocalAnswer, LocalCause, LocalDue}
 use Rattle.coeus.specs.Serving.{ServeAnswer, ServeFront, ServeCause, ServeDue, CallsPort}
 use Rattle.coeus.specs.Remote.{SearchAnswer, SearchCause, SearchDue, DialsOnce}
+use Rattle.coeus.specs.Rehearsals.{RehearseAnswer, RehearseCause, CanBeRehearsed}
 use Rattle.coeus.specs.declared.refusals.Refusal.{Refusal}
 use Rattle.coeus.specs.declared.refusals.Refusal.TheVariants as refusals
 
@@ -26,6 +27,8 @@ Prints (SpokenLocal p) was is text =
     LocalAnswer p was.files.held was.devices.random is.devices.random text
 Prints (SpokenServe p) was is text = ServeAnswer p was is text
 Prints (SpokenSearch p) was is text = SearchAnswer p was.devices is.devices text
+Prints (SpokenRehearse p) was is text =
+    RehearseAnswer p was.devices.random is.devices.random text
 Prints SpokenWrong was is text = ⊥
 
 -- the text of which a part couldn't be put: that of the answer, or the lines of the connections that
@@ -49,6 +52,8 @@ Cause (SpokenLocal p) was is refusal =
     LocalCause p was.files is.files was.devices.random is.devices.random refusal
 Cause (SpokenServe p) was is refusal = ServeCause p was is refusal
 Cause (SpokenSearch p) was is refusal = SearchCause p was.devices is.devices refusal
+Cause (SpokenRehearse p) was is refusal =
+    RehearseCause p was.devices.random is.devices.random refusal
 Cause SpokenWrong was is refusal = refusal ≡ refusals.Words
 
 -- the files that it changes: those of `import` are at most its library, any other command has none
@@ -57,11 +62,13 @@ Keeps (SpokenImport i) was is =
     (name : List ℕ) → name ≢ i.library → file_at is name ≡ file_at was name
 Keeps command was is = is ≡ was
 
--- what it takes of the devices: a search over a library draws random words; a search over a dial
--- draws and makes at most one dial, of its host and port; serving makes at most one call to listen,
--- on its port, and at most so many to accept as its connections; any other command leaves them all
+-- what it takes of the devices: a search over a library draws random words, and so does a rehearsal;
+-- a search over a dial draws and makes at most one dial, of its host and port; serving makes at most
+-- one call to listen, on its port, and at most so many to accept as its connections; any other
+-- command leaves them all
 abbrev pub Uses : Spoken → Devices → Devices → Type 0
 Uses (SpokenLocal p) was is = is ≡ record was { random = is.random }
+Uses (SpokenRehearse p) was is = is ≡ record was { random = is.random }
 Uses (SpokenServe p) was is = (is ≡ record was { port = is.port }) × CallsPort p was.port is.port
 Uses (SpokenSearch p) was is = (is.port ≡ was.port) × DialsOnce p was.dial is.dial
 Uses command was is = is ≡ was
@@ -74,6 +81,7 @@ Due (SpokenShape s) was is status = status ≡ status_of_test (test_of s)
 Due (SpokenLocal p) was is status = LocalDue p was.files.held status
 Due (SpokenServe p) was is status = ServeDue p was.files.held × (status ≡ 0)
 Due (SpokenSearch p) was is status = SearchDue p is.devices.dial status
+Due (SpokenRehearse p) was is status = CanBeRehearsed p × (status ≡ 0)
 Due SpokenWrong was is status = status ≡ 2
 
 -- what a refusal leaves of the output: all, but for the lines of a shape that fails the test, and

@@ -8,6 +8,7 @@ use Rattle.std.specs.Str.Parse.{digits_value}
 use Rattle.co_noise.specs.Shapes.{Numbers, numbers, shape_of, is_within}
 use Rattle.co_library.specs.declared.settings.Settings.{Settings}
 use Rattle.coeus.specs.declared.options.Options.{Options}
+use Rattle.coeus.specs.declared.words.RehearseCommand.{RehearseCommand}
 use Rattle.coeus.specs.declared.limits.TheConstants.{DEFAULT_DEGREE, DEFAULT_TERMS, DEFAULT_HITS, DEFAULT_SALT, DEFAULT_CHUNKS, DEFAULT_PICK, DEFAULT_WORKERS, DEFAULT_PORT, DEFAULT_CONNECTIONS, MAX_PICK, MAX_WORKERS, MAX_PORT, MAX_CONNECTIONS, SHORT_DIGITS}
 
 -- one to so many decimal digits
@@ -26,6 +27,10 @@ below bound (Some n) = if nat_lt n bound then Some n else None
 -- a number of 32 bits, of at most ten digits
 unfoldable pub short_number : List ℕ → Option ℕ
 short_number w = below (2 ^ 32) (digits_number SHORT_DIGITS w)
+
+-- a number of 64 bits, of at most twenty digits
+unfoldable pub long_number : List ℕ → Option ℕ
+long_number w = below (2 ^ 64) (digits_number 20 w)
 
 -- a positional word doesn't begin with a dash
 abbrev pub begins_with_dash : List ℕ → Bool
@@ -133,6 +138,7 @@ pub data Spoken : Type 0 where
   SpokenLocal : LocalWords → Spoken
   SpokenServe : ServeWords → Spoken
   SpokenSearch : SearchWords → Spoken
+  SpokenRehearse : RehearseCommand → Spoken
   SpokenWrong : Spoken
 
 -- what is spoken, if it is in the grammar
@@ -197,6 +203,11 @@ are_for_serve o = none_for_publishing o && is_none o.pick
 -- no option was given but `--pick`
 abbrev pub are_for_search : Options → Bool
 are_for_search o = none_for_publishing o && none_for_serving o && is_none o.workers
+
+-- no option was given but `--degree` and `--workers`
+abbrev pub are_for_rehearse : Options → Bool
+are_for_rehearse o = is_none o.terms && is_none o.hits && is_none o.salt && is_none o.chunks
+    && is_none o.pick && none_for_serving o
 
 -- `plain` has a query, and options of its own
 abbrev pub plain_of : List ℕ → Rest → Option PlainWords
@@ -305,6 +316,24 @@ shape_words (degree ∷ terms ∷ rows ∷ bins ∷ []) =
     (short_number bins)) (short_number rows)) (short_number terms)) (short_number degree)
 shape_words words = None
 
+-- `rehearse` has options of its own, and no query
+abbrev pub rehearse_of : ℕ → Rest → Option RehearseCommand
+rehearse_of number rest =
+    if are_for_rehearse rest.options && is_none rest.query
+    then option_map (λ workers. record {
+      number = number;
+      degree = unwrap_or rest.options.degree DEFAULT_DEGREE;
+      workers = workers;
+    }) (workers_of rest.options)
+    else None
+
+-- behind `rehearse`: N and options
+abbrev pub rehearse_words : List (List ℕ) → Option RehearseCommand
+rehearse_words [] = None
+rehearse_words (number ∷ rest) =
+    option_and_then (λ n. option_and_then (rehearse_of n) (rest_of no_options rest))
+    (long_number number)
+
 -- what the words ask for
 unfoldable pub spoken : List (List ℕ) → Spoken
 spoken [] = SpokenWrong
@@ -315,6 +344,7 @@ spoken (command ∷ words) =
     else if bytes_eq command (codes "local") then or_wrong SpokenLocal (local_words words)
     else if bytes_eq command (codes "serve") then or_wrong SpokenServe (serve_words words)
     else if bytes_eq command (codes "search") then or_wrong SpokenSearch (search_words words)
+    else if bytes_eq command (codes "rehearse") then or_wrong SpokenRehearse (rehearse_words words)
     else SpokenWrong
 
 -- ---- the query

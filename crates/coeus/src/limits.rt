@@ -9,6 +9,9 @@ pub const MAX_LIBRARY: u64 = 671_088_640;
 /// The most digits of a number of 32 bits.
 pub const SHORT_DIGITS: usize = 10;
 
+/// The most digits of a number of 64 bits.
+pub const LONG_DIGITS: usize = 20;
+
 /// The last rank that may be picked.
 pub const MAX_PICK: u32 = 64;
 

@@ -86,7 +86,7 @@ fn ask<T: Runs, R: Rng>(
 }
 
 /// The text of what a search finds.
-fn answer<T: Runs, R: Rng>(
+pub fn answer<T: Runs, R: Rng>(
     rt: &T,
     alloc: Global,
     loaded: &Loaded,

@@ -11,11 +11,13 @@
 
 mod limits;
 mod local;
+mod making;
 mod options;
 mod plain;
 mod program;
 mod publish;
 mod refusals;
+mod rehearse;
 mod remote;
 mod search_faults;
 mod serving;

@@ -3,18 +3,19 @@ ghost use Rattle.std.specs.Prelude.{◌≡◌, ◌≤◌, string_bytes, map, opt
 ghost use Rattle.std.specs.Char.{is_ascii_digit};
 ghost use Rattle.std.specs.List.{list_all};
 ghost use Rattle.std.specs.Str.Parse.{digits_value};
-ghost use Rattle.coeus.specs.Words.{are_digits, digits_number, short_number, once, with_option};
+ghost use Rattle.coeus.specs.Words.{are_digits, digits_number, short_number, long_number};
+ghost use Rattle.coeus.specs.Words.{once, with_option};
 ghost use Rattle.coeus.specs.Words.{no_options, rest_of, number_within, pick_of, workers_of};
 ghost use Rattle.coeus.specs.Words.{port_of, connections_of, from_one, port_word};
 ghost use Rattle.coeus.specs.Words.{none_for_publishing, none_for_serving};
 ghost use Rattle.coeus.specs.Words.{are_for_plain, are_for_import, are_for_local};
-ghost use Rattle.coeus.specs.Words.{are_for_serve, are_for_search};
+ghost use Rattle.coeus.specs.Words.{are_for_serve, are_for_search, are_for_rehearse};
 ghost use Rattle.coeus.specs.Commands.{rest_shown};
 ghost use Rattle.coeus.specs.Next.{next_shown, words_left};
 
 use crate::limits::{
-    DEFAULT_CONNECTIONS, DEFAULT_PICK, DEFAULT_PORT, DEFAULT_WORKERS, MAX_CONNECTIONS, MAX_PICK,
-    MAX_PORT, MAX_WORKERS, SHORT_DIGITS,
+    DEFAULT_CONNECTIONS, DEFAULT_PICK, DEFAULT_PORT, DEFAULT_WORKERS, LONG_DIGITS, MAX_CONNECTIONS,
+    MAX_PICK, MAX_PORT, MAX_WORKERS, SHORT_DIGITS,
 };
 
 /// The options that were given, each with its number.
@@ -94,6 +95,14 @@ pub fn read_short(word: &str) -> Option<u32>
     ensures { result ≡ short_number word.now }
 {
     u32::try_from(read_digits(word, SHORT_DIGITS)?).ok()
+}
+
+/// The number of 64 bits that a word of 1 to 20 digits writes.
+#[tactic(auto, unfolding(crate::specs::Words::long_number))]
+pub fn read_long(word: &str) -> Option<u64>
+    ensures { result ≡ long_number word.now }
+{
+    u64::try_from(read_digits(word, LONG_DIGITS)?).ok()
 }
 
 // The number of an option that is given once.
@@ -252,6 +261,18 @@ impl Options {
         ensures { result ≡ are_for_search self }
     {
         self.none_for_publishing() && self.none_for_serving() && self.workers.is_none()
+    }
+
+    /// Whether no option was given but those of a rehearsal.
+    pub fn are_for_rehearse(self) -> bool
+        ensures { result ≡ are_for_rehearse self }
+    {
+        self.terms.is_none()
+            && self.hits.is_none()
+            && self.salt.is_none()
+            && self.chunks.is_none()
+            && self.pick.is_none()
+            && self.none_for_serving()
     }
 
     /// The pick, 1 to 64, or else 1.

@@ -8,6 +8,7 @@ use crate::local::local;
 use crate::plain::plain;
 use crate::publish::import;
 use crate::refusals::{Refusal, tell};
+use crate::rehearse::rehearse;
 use crate::remote::search_remote;
 use crate::serving::serve;
 use crate::shape::show;
@@ -50,6 +51,7 @@ fn execute<T: Threads + Sync, F: Files, D: Dial, P: Port, R: Rng, O: Sink>(
         Command::Local(command) => local(rt, alloc, command, files, rng, out),
         Command::Serve(command) => serve(rt, alloc, command, files, port, out),
         Command::Search(command) => search_remote(alloc, command, dial, rng, out),
+        Command::Rehearse(command) => rehearse(rt, alloc, command, rng, out),
         Command::Wrong => Err(Refusal::Words),
     }
 }

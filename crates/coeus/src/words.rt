@@ -2,14 +2,15 @@
 ghost use Rattle.std.specs.Prelude.{◌≡◌, ◌++◌, IfOk, IfSome, string_bytes, map, option_map};
 ghost use Rattle.coeus.specs.Words.{plain_words, import_words, settings_of, shape_words};
 ghost use Rattle.coeus.specs.Words.{local_words, serve_words, search_words};
-ghost use Rattle.coeus.specs.Words.{spoken, joined};
+ghost use Rattle.coeus.specs.Words.{rehearse_words, spoken, joined};
 ghost use Rattle.coeus.specs.Commands.{command_shown, plain_shown, import_shown, local_shown};
 ghost use Rattle.coeus.specs.Commands.{serve_shown, search_shown, rest_shown};
 ghost use Rattle.coeus.specs.Commands.{IsWithinRanges, IsWithinServing, IsWithinSearching};
+ghost use Rattle.coeus.specs.Commands.{IsWithinRehearsals};
 ghost use Rattle.coeus.specs.Commands.{AreWithinRanges};
 
 use crate::limits::{DEFAULT_CHUNKS, DEFAULT_DEGREE, DEFAULT_HITS, DEFAULT_SALT, DEFAULT_TERMS};
-use crate::options::{OptionsAndQuery, read_options, read_port, read_short};
+use crate::options::{OptionsAndQuery, read_long, read_options, read_port, read_short};
 use co_library::Settings;
 use co_noise::Shape;
 use std::alloc::{AllocError, Global};
@@ -79,6 +80,17 @@ pub struct SearchCommand<'a> {
     pub query: &'a [String],
 }
 
+/// What `rehearse N` is to do.
+#[derive(Clone, Copy)]
+pub struct RehearseCommand {
+    /// The number that documents and queries are made from.
+    pub number: u64,
+    /// How many coefficients a polynomial of the library has.
+    pub degree: u32,
+    /// How many workers compute a reply.
+    pub workers: u32,
+}
+
 /// What the words of the command line ask for.
 #[derive(Clone, Copy)]
 pub enum Command<'a> {
@@ -88,6 +100,7 @@ pub enum Command<'a> {
     Local(LocalCommand<'a>),
     Serve(ServeCommand<'a>),
     Search(SearchCommand<'a>),
+    Rehearse(RehearseCommand),
     /// Nothing that is in the grammar.
     Wrong,
 }
@@ -130,6 +143,11 @@ pub fn read_command(words: &[String]) -> Command<'_>
     } else if command == "search" {
         match read_search(words) {
             Some(command) => Command::Search(command),
+            None => Command::Wrong,
+        }
+    } else if command == "rehearse" {
+        match read_rehearse(words) {
+            Some(command) => Command::Rehearse(command),
             None => Command::Wrong,
         }
     } else {
@@ -237,6 +255,27 @@ fn read_search(words: &[String]) -> Option<SearchCommand<'_>>
         port,
         pick,
         query,
+    })
+}
+
+// Reads N and options.
+fn read_rehearse(words: &[String]) -> Option<RehearseCommand>
+    ensures value { result ≡ rehearse_words (map string_bytes words.now) }
+    ensures ranges { IfSome result IsWithinRehearsals }
+{
+    let [number, rest @ ..] = words else {
+        return None;
+    };
+    let number = read_long(number.as_str())?;
+    let rest = read_options(rest)?;
+    if !rest.options.are_for_rehearse() || rest.query.is_some() {
+        return None;
+    }
+    let workers = rest.options.workers()?;
+    Some(RehearseCommand {
+        number,
+        degree: rest.options.degree.unwrap_or(DEFAULT_DEGREE),
+        workers,
     })
 }
 

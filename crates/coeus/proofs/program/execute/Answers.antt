@@ -88,3 +88,18 @@ returns-in-Search g c =
     (sink_state (g.O.Sink.put_so_far c.search_remote.new.out) (g.O.Sink.faults c.search_remote.new.out))) c.search_remote.result)
     (ap command_shown (sym c.in-Search.is)) (c.search_remote.ensures (files_state (g.F.Files.held c.args.files.now) (g.F.Files.faults c.args.files.now) (g.F.Files.last_failed c.args.files.now))
     (port_state (g.P.Port.tells c.args.port.now) (g.P.Port.faults c.args.port.now) (g.P.Source.left c.args.port.now) (g.P.Sink.put_so_far c.args.port.now) (g.P.Source.faults c.args.port.now) (g.P.Sink.faults c.args.port.now)))
+
+pub returns-in-Rehearse : goal.returns-in-Rehearse
+returns-in-Rehearse g c =
+    subst (λ (command : Spoken). Ended command
+    (outside (files_state (g.F.Files.held c.args.files.now) (g.F.Files.faults c.args.files.now) (g.F.Files.last_failed c.args.files.now))
+    (devices (g.R.Rng.stream c.args.rng.now) (dial_state (g.D.Link.exchanges c.args.dial.now) (g.D.Link.faults c.args.dial.now) (g.D.Link.last_failed c.args.dial.now) (g.D.Dial.dials c.args.dial.now) (g.D.Dial.last_dial c.args.dial.now))
+    (port_state (g.P.Port.tells c.args.port.now) (g.P.Port.faults c.args.port.now) (g.P.Source.left c.args.port.now) (g.P.Sink.put_so_far c.args.port.now) (g.P.Source.faults c.args.port.now) (g.P.Sink.faults c.args.port.now)))
+    (sink_state (g.O.Sink.put_so_far c.args.out.now) (g.O.Sink.faults c.args.out.now)))
+    (outside (files_state (g.F.Files.held c.args.files.now) (g.F.Files.faults c.args.files.now) (g.F.Files.last_failed c.args.files.now))
+    (devices (g.R.Rng.stream c.rehearse.new.rng) (dial_state (g.D.Link.exchanges c.args.dial.now) (g.D.Link.faults c.args.dial.now) (g.D.Link.last_failed c.args.dial.now) (g.D.Dial.dials c.args.dial.now) (g.D.Dial.last_dial c.args.dial.now))
+    (port_state (g.P.Port.tells c.args.port.now) (g.P.Port.faults c.args.port.now) (g.P.Source.left c.args.port.now) (g.P.Sink.put_so_far c.args.port.now) (g.P.Source.faults c.args.port.now) (g.P.Sink.faults c.args.port.now)))
+    (sink_state (g.O.Sink.put_so_far c.rehearse.new.out) (g.O.Sink.faults c.rehearse.new.out))) c.rehearse.result)
+    (ap command_shown (sym c.in-Rehearse.is)) (c.rehearse.ensures (files_state (g.F.Files.held c.args.files.now) (g.F.Files.faults c.args.files.now) (g.F.Files.last_failed c.args.files.now))
+    (dial_state (g.D.Link.exchanges c.args.dial.now) (g.D.Link.faults c.args.dial.now) (g.D.Link.last_failed c.args.dial.now) (g.D.Dial.dials c.args.dial.now) (g.D.Dial.last_dial c.args.dial.now))
+    (port_state (g.P.Port.tells c.args.port.now) (g.P.Port.faults c.args.port.now) (g.P.Source.left c.args.port.now) (g.P.Sink.put_so_far c.args.port.now) (g.P.Source.faults c.args.port.now) (g.P.Sink.faults c.args.port.now)))
