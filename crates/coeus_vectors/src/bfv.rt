@@ -1,6 +1,6 @@
 //! Draws, encryption, decryption, and sums of ciphertexts.
 
-ghost use Rattle.std.specs.Prelude.{◌≡◌, length, IfOk};
+ghost use Rattle.std.specs.Prelude.{◌≡◌, length, All, IfOk, IsTrue};
 ghost use Rattle.co_bfv.specs.Ciphertexts.{ciphertext_degree};
 
 use crate::cases::{BadCase, Case, degree_of};
@@ -113,6 +113,13 @@ pub fn encrypted_slots(
     Ok(encrypt(alloc, secret, &message, rng)?)
 }
 
+/// Whether all ciphertexts have so many coefficients.
+pub fn have_degree(ciphers: &[Cipher], degree: usize) -> bool
+    ensures { IsTrue result → All (λ c. ciphertext_degree c ≡ degree) ciphers.now }
+{
+    ciphers.iter().all(|cipher| cipher.degree() == degree)
+}
+
 fn opened(alloc: Global, secret: &Secret, cipher: &Cipher) -> Result<Poly, BadCase>
     ensures { IfOk result (λ p. p.modulus ≡ Modulus.Plain) }
 {
@@ -142,6 +149,19 @@ fn put_opened_slots(
 ) -> Result<(), BadCase> {
     let message = opened(alloc, secret, cipher)?;
     put_words(line, &decode_slots(alloc, &message)?)?;
+    Ok(())
+}
+
+/// What each ciphertext opens to.
+pub fn put_all_opened(
+    alloc: Global,
+    line: &mut String,
+    secret: &Secret,
+    ciphers: &[Cipher],
+) -> Result<(), BadCase> {
+    for cipher in ciphers {
+        put_opened(alloc, line, secret, cipher)?;
+    }
     Ok(())
 }
 

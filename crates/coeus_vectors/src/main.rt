@@ -14,8 +14,10 @@ mod bucket;
 mod cases;
 mod library;
 mod lines;
+mod matvec;
 mod noise;
 mod pack;
+mod pir;
 mod ring;
 mod rns;
 mod rot;
@@ -31,14 +33,21 @@ use cases::{BadCase, Case};
 use serde_json::Value;
 use std::alloc::Global;
 use std::fs;
+use std::thread::Threads;
 
 /// The layers, lowest first.
-const LAYERS: [&str; 13] = [
-    "ring", "rns", "slots", "noise", "bfv", "switch", "rot", "bucket", "text", "tfidf", "pack",
-    "library", "wire",
+const LAYERS: [&str; 15] = [
+    "ring", "rns", "slots", "noise", "bfv", "switch", "rot", "matvec", "pir", "bucket", "text",
+    "tfidf", "pack", "library", "wire",
 ];
 
-fn line_of(alloc: Global, layer: &str, call: &str, case: Case) -> Result<String, BadCase> {
+fn line_of<R: Threads + Sync>(
+    rt: &R,
+    alloc: Global,
+    layer: &str,
+    call: &str,
+    case: Case,
+) -> Result<String, BadCase> {
     match layer {
         "ring" => ring::line(alloc, call, case),
         "rns" => rns::line(alloc, call, case),
@@ -46,6 +55,8 @@ fn line_of(alloc: Global, layer: &str, call: &str, case: Case) -> Result<String,
         "noise" => noise::line(alloc, call, case),
         "bfv" | "switch" => streams::line(alloc, layer, call, case),
         "rot" => rot::line(alloc, call, case),
+        "matvec" => matvec::line(rt, alloc, call, case),
+        "pir" => pir::line(rt, alloc, call, case),
         "bucket" => bucket::line(alloc, call, case),
         "text" => text::line(alloc, call, case),
         "tfidf" => tfidf::line(alloc, call, case),
@@ -72,7 +83,7 @@ fn main(rt: HostRuntime) -> Result<(), Error> {
         for (number, fields) in cases.iter().enumerate() {
             let case = Case::new(fields);
             let call = case.text("call");
-            match line_of(rt.alloc(), layer, call, case) {
+            match line_of(&rt, rt.alloc(), layer, call, case) {
                 Ok(line) => println!(rt; "{layer} {number} {call}{line}")?,
                 Err(_) => println!(rt; "{layer} {number} {call}: no line")?,
             }

@@ -1,0 +1,202 @@
+//! Score replies.
+
+ghost use Rattle.std.specs.Prelude.{ℕ, ◌≡◌, ◌+◌, ◌<◌, length, slice_index_or, IsTrue, IfOk, All};
+ghost use Rattle.co_matvec.specs.Weights.{AreEntries, Precedes};
+ghost use Rattle.co_switch.specs.Keys.{keys_degree};
+
+use crate::bfv::{encrypted_slots, have_degree, put_all_slots};
+use crate::cases::{BadCase, Case, degree_of};
+use crate::lines::put_ciphers;
+use crate::switch::keyed;
+use co_bfv::{Cipher, Secret};
+use co_board::OpenGate;
+use co_matvec::{Weights, score};
+use co_switch::{KeySet, Steps};
+use rand_core::SeedableRng;
+use rand_xoshiro::SplitMix64;
+use std::alloc::{AllocError, Global};
+use std::thread::Threads;
+
+pub fn line<R: Threads + Sync>(
+    rt: &R,
+    alloc: Global,
+    call: &str,
+    case: Case,
+) -> Result<String, BadCase> {
+    let mut line = String::new(alloc);
+    match call {
+        "score" | "slots" => put_scores(rt, alloc, &mut line, call, case)?,
+        _ => return Err(BadCase::Unfit),
+    }
+    Ok(line)
+}
+
+/// The entries that a field lists, three numbers each: term, document and weight.
+fn entries(alloc: Global, case: Case) -> Result<Vec<(u32, u32, u16)>, AllocError> {
+    let numbers = case.numbers(alloc, "weights")?;
+    let mut all = Vec::new(alloc);
+    for entry in numbers.chunks_exact(3) {
+        if let [term, document, weight] = entry {
+            all.push((*term, *document, u16::try_from(*weight).unwrap_or(0)))?;
+        }
+    }
+    Ok(all)
+}
+
+/// Whether an entry is in range.
+fn is_within(documents: u32, terms: u32, entry: &(u32, u32, u16)) -> bool
+    ensures { IsTrue result → (entry.now.0 < terms) × (entry.now.1 < documents) }
+{
+    entry.0 < terms && entry.1 < documents
+}
+
+/// Whether an entry comes before another.
+fn precedes(entry: &(u32, u32, u16), next: &(u32, u32, u16)) -> bool
+    ensures { IsTrue result → Precedes entry.now next.now }
+{
+    entry.0 < next.0 || entry.0 == next.0 && entry.1 < next.1
+}
+
+/// Whether all entries are in range.
+fn are_within(documents: u32, terms: u32, entries: &[(u32, u32, u16)]) -> bool
+    ensures { IsTrue result → All (λ e. (e.0 < terms) × (e.1 < documents)) entries.now }
+{
+    for entry in entries {
+        if !is_within(documents, terms, entry) {
+            return false;
+        }
+    }
+    true
+}
+
+/// Whether each entry comes before the next.
+fn ascend(entries: &[(u32, u32, u16)]) -> bool
+    ensures { IsTrue result → (i : ℕ) (d : ℕ × ℕ × ℕ) → i + 1 < length entries.now
+        → Precedes (slice_index_or entries.now i d) (slice_index_or entries.now (i + 1) d) }
+{
+    for next in 1..entries.len() {
+        if !precedes(&entries[next - 1], &entries[next]) {
+            return false;
+        }
+    }
+    true
+}
+
+/// Whether entries are in range and ascend.
+fn are_entries(documents: u32, terms: u32, entries: &[(u32, u32, u16)]) -> bool
+    ensures { IsTrue result → AreEntries documents terms entries.now }
+{
+    are_within(documents, terms, entries) && ascend(entries)
+}
+
+/// The weights of a case, of a secret's degree.
+fn weights(alloc: Global, case: Case, secret: &Secret) -> Result<Weights, BadCase>
+    ensures { IfOk result (λ w. w.degree ≡ length secret.now) }
+{
+    let degree = degree_of(secret.degree())?;
+    let entries = entries(alloc, case)?;
+    let documents = case.number("documents");
+    let terms = case.number("terms");
+    if !are_entries(documents, terms, &entries) {
+        return Err(BadCase::Unfit);
+    }
+    Ok(Weights::new(alloc, degree, documents, terms, &entries)?)
+}
+
+/// The query of a case, drawn block by block.
+fn queries(
+    alloc: Global,
+    case: Case,
+    blocks: usize,
+    secret: &Secret,
+    words: &mut SplitMix64,
+) -> Result<Vec<Cipher>, BadCase> {
+    let mut query = Vec::new(alloc);
+    draw(alloc, case, blocks, secret, words, &mut query)?;
+    Ok(query)
+}
+
+fn draw(
+    alloc: Global,
+    case: Case,
+    blocks: usize,
+    secret: &Secret,
+    words: &mut SplitMix64,
+    query: &mut Vec<Cipher>,
+) -> Result<(), BadCase> {
+    for block in 0..blocks {
+        let cipher = block_query(alloc, case, block, secret, words)?;
+        keep(query, cipher)?;
+    }
+    Ok(())
+}
+
+fn keep(ciphers: &mut Vec<Cipher>, cipher: Cipher) -> Result<(), AllocError> {
+    Ok(ciphers.push(cipher)?)
+}
+
+/// The ciphertext of a keyword block.
+fn block_query(
+    alloc: Global,
+    case: Case,
+    block: usize,
+    secret: &Secret,
+    words: &mut SplitMix64,
+) -> Result<Cipher, BadCase> {
+    let name = format!(in alloc; "query{block}")?;
+    encrypted_slots(alloc, case, name.as_str(), secret, words)
+}
+
+/// The replies to a query.
+fn replies<R: Threads + Sync>(
+    rt: &R,
+    alloc: Global,
+    case: Case,
+    weights: &Weights,
+    secret: &Secret,
+    keys: &KeySet,
+    query: &[Cipher],
+) -> Result<Vec<Cipher>, BadCase>
+    requires weights { weights.now.degree ≡ length secret.now }
+    requires keys { keys_degree keys.now ≡ length secret.now }
+{
+    if query.len() != weights.keyword_blocks() || !have_degree(query, secret.degree()) {
+        return Err(BadCase::Unfit);
+    }
+    let workers = case.number("workers").clamp(1, 64);
+    let mut steps = Steps::begin();
+    Ok(score(
+        rt, alloc, weights, keys, query, workers, &OpenGate, &mut steps,
+    )?)
+}
+
+/// The slots that the replies open to, behind the digests of query and replies where they are known.
+fn put_scores<R: Threads + Sync>(
+    rt: &R,
+    alloc: Global,
+    line: &mut String,
+    call: &str,
+    case: Case,
+) -> Result<(), BadCase> {
+    let mut words = SplitMix64::seed_from_u64(case.number("stream") as u64);
+    let (secret, keys) = keyed(alloc, case, &mut words)?;
+    let weights = weights(alloc, case, &secret)?;
+    let query = queries(alloc, case, weights.keyword_blocks(), &secret, &mut words)?;
+    let replies = replies(rt, alloc, case, &weights, &secret, &keys, &query)?;
+    put_digests(alloc, line, call, &query, &replies)?;
+    put_all_slots(alloc, line, &secret, &replies)
+}
+
+fn put_digests(
+    alloc: Global,
+    line: &mut String,
+    call: &str,
+    query: &[Cipher],
+    replies: &[Cipher],
+) -> Result<(), AllocError> {
+    if call == "slots" {
+        return Ok(());
+    }
+    put_ciphers(alloc, line, query)?;
+    put_ciphers(alloc, line, replies)
+}
