@@ -44,6 +44,14 @@ impl<'a> Case<'a> {
         }
     }
 
+    /// The cases that the field `steps` lists.
+    pub fn steps(&self) -> Result<&'a [Value], BadCase> {
+        match self.fields.get("steps").and_then(Value::as_array) {
+            Some(steps) => Ok(steps.as_slice()),
+            None => Err(BadCase::Unfit),
+        }
+    }
+
     pub fn number(&self, name: &str) -> u32 {
         self.text(name).parse().unwrap_or(0)
     }

@@ -31,7 +31,7 @@ fn settings(case: Case) -> Settings {
     }
 }
 
-fn library(alloc: Global, case: Case) -> Result<Library, BadCase> {
+pub fn library(alloc: Global, case: Case) -> Result<Library, BadCase> {
     match publish(alloc, &corpus(alloc, case)?, &settings(case)) {
         Ok(library) => Ok(library),
         Err(_) => return Err(BadCase::Unfit),

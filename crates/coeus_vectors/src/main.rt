@@ -12,6 +12,7 @@
 mod bfv;
 mod bucket;
 mod cases;
+mod gates;
 mod library;
 mod lines;
 mod matvec;
@@ -21,6 +22,7 @@ mod pir;
 mod ring;
 mod rns;
 mod rot;
+mod session;
 mod slots;
 mod streams;
 mod switch;
@@ -36,9 +38,9 @@ use std::fs;
 use std::thread::Threads;
 
 /// The layers, lowest first.
-const LAYERS: [&str; 15] = [
+const LAYERS: [&str; 16] = [
     "ring", "rns", "slots", "noise", "bfv", "switch", "rot", "matvec", "pir", "bucket", "text",
-    "tfidf", "pack", "library", "wire",
+    "tfidf", "pack", "library", "wire", "session",
 ];
 
 fn line_of<R: Threads + Sync>(
@@ -63,6 +65,7 @@ fn line_of<R: Threads + Sync>(
         "pack" => pack::line(alloc, call, case),
         "library" => library::line(alloc, call, case),
         "wire" => wire::line(alloc, call, case),
+        "session" => session::line(rt, alloc, call, case),
         _ => Err(BadCase::Unfit),
     }
 }

@@ -6,10 +6,10 @@ ghost use Rattle.co_switch.specs.Keys.{keys_degree};
 
 use crate::bfv::{encrypted_slots, have_degree, put_all_slots};
 use crate::cases::{BadCase, Case, degree_of};
+use crate::gates::Watch;
 use crate::lines::put_ciphers;
 use crate::switch::keyed;
 use co_bfv::{Cipher, Secret};
-use co_board::OpenGate;
 use co_matvec::{Weights, score};
 use co_switch::{KeySet, Steps};
 use rand_core::SeedableRng;
@@ -25,7 +25,7 @@ pub fn line<R: Threads + Sync>(
 ) -> Result<String, BadCase> {
     let mut line = String::new(alloc);
     match call {
-        "score" | "slots" => put_scores(rt, alloc, &mut line, call, case)?,
+        "score" | "slots" | "order" | "held" => put_scores(rt, alloc, &mut line, call, case)?,
         _ => return Err(BadCase::Unfit),
     }
     Ok(line)
@@ -112,8 +112,10 @@ fn queries(
     words: &mut SplitMix64,
 ) -> Result<Vec<Cipher>, BadCase> {
     let mut query = Vec::new(alloc);
-    draw(alloc, case, blocks, secret, words, &mut query)?;
-    Ok(query)
+    match draw(alloc, case, blocks, secret, words, &mut query) {
+        Ok(()) => Ok(query),
+        Err(fault) => Err(fault),
+    }
 }
 
 fn draw(
@@ -156,6 +158,7 @@ fn replies<R: Threads + Sync>(
     secret: &Secret,
     keys: &KeySet,
     query: &[Cipher],
+    gate: &Watch,
 ) -> Result<Vec<Cipher>, BadCase>
     requires weights { weights.now.degree ≡ length secret.now }
     requires keys { keys_degree keys.now ≡ length secret.now }
@@ -165,12 +168,9 @@ fn replies<R: Threads + Sync>(
     }
     let workers = case.number("workers").clamp(1, 64);
     let mut steps = Steps::begin();
-    Ok(score(
-        rt, alloc, weights, keys, query, workers, &OpenGate, &mut steps,
-    )?)
+    Ok(score(rt, alloc, weights, keys, query, workers, gate, &mut steps)?)
 }
 
-/// The slots that the replies open to, behind the digests of query and replies where they are known.
 fn put_scores<R: Threads + Sync>(
     rt: &R,
     alloc: Global,
@@ -181,22 +181,45 @@ fn put_scores<R: Threads + Sync>(
     let mut words = SplitMix64::seed_from_u64(case.number("stream") as u64);
     let (secret, keys) = keyed(alloc, case, &mut words)?;
     let weights = weights(alloc, case, &secret)?;
-    let query = queries(alloc, case, weights.keyword_blocks(), &secret, &mut words)?;
-    let replies = replies(rt, alloc, case, &weights, &secret, &keys, &query)?;
-    put_digests(alloc, line, call, &query, &replies)?;
-    put_all_slots(alloc, line, &secret, &replies)
+    put_scores_by(
+        rt, alloc, line, call, case, &weights, &secret, &keys, &mut words,
+    )
 }
 
-fn put_digests(
+/// The scores of a case, and what its gate was told.
+fn put_scores_by<R: Threads + Sync>(
+    rt: &R,
     alloc: Global,
     line: &mut String,
     call: &str,
+    case: Case,
+    weights: &Weights,
+    secret: &Secret,
+    keys: &KeySet,
+    words: &mut SplitMix64,
+) -> Result<(), BadCase>
+    requires weights { weights.now.degree ≡ length secret.now }
+    requires keys { keys_degree keys.now ≡ length secret.now }
+{
+    let query = queries(alloc, case, weights.keyword_blocks(), secret, words)?;
+    let gate = Watch::of(case);
+    let replies = replies(rt, alloc, case, weights, secret, keys, &query, &gate)?;
+    put_found(alloc, line, call, secret, &query, &replies)?;
+    Ok(gate.put(line, call)?)
+}
+
+/// The slots that the replies open to, behind the digests of query and replies where they are known.
+fn put_found(
+    alloc: Global,
+    line: &mut String,
+    call: &str,
+    secret: &Secret,
     query: &[Cipher],
     replies: &[Cipher],
-) -> Result<(), AllocError> {
-    if call == "slots" {
-        return Ok(());
+) -> Result<(), BadCase> {
+    if call == "score" {
+        put_ciphers(alloc, line, query)?;
+        put_ciphers(alloc, line, replies)?;
     }
-    put_ciphers(alloc, line, query)?;
-    put_ciphers(alloc, line, replies)
+    put_all_slots(alloc, line, secret, replies)
 }

@@ -1,5 +1,7 @@
 //! Shapes, and the test of their noise. What the bounds are stands in the black-box cases.
 
+ghost use Rattle.std.specs.Prelude.{◌≡◌, IfOk};
+
 use crate::cases::{BadCase, Case};
 use crate::lines::{put, put_text};
 use co_noise::{Shape, TestFault, Tested, test};
@@ -33,7 +35,14 @@ pub fn tested(case: Case) -> Result<Tested, BadCase> {
     let Some(shape) = shape(case) else {
         return Err(BadCase::Unfit);
     };
-    match test(&shape) {
+    passed(&shape)
+}
+
+/// A shape that passes the test.
+pub fn passed(shape: &Shape) -> Result<Tested, BadCase>
+    ensures { IfOk result (λ t. t ≡ shape.now) }
+{
+    match test(shape) {
         Ok(tested) => Ok(tested),
         Err(_) => return Err(BadCase::Unfit),
     }

@@ -7,11 +7,11 @@ ghost use Rattle.co_switch.specs.Keys.{keys_degree};
 
 use crate::bfv::{drawn, encrypted, have_degree, put_all_opened};
 use crate::cases::{BadCase, Case, degree_of};
+use crate::gates::Watch;
 use crate::lines::{put, put_bytes, put_ciphers, put_each};
 use crate::slots::put_fault;
 use crate::switch::keyed;
 use co_bfv::{Cipher, Secret, encrypt};
-use co_board::OpenGate;
 use co_pir::{Rows, answer, expand, levels, open_reply, query_message};
 use co_ring::{Degree, Modulus, Poly};
 use co_switch::{KeySet, Steps};
@@ -29,7 +29,7 @@ pub fn line<R: Threads + Sync>(
     let mut line = String::new(alloc);
     match call {
         "query" => put_query(alloc, &mut line, case)?,
-        "retrieve" => put_retrieval(rt, alloc, &mut line, case)?,
+        "retrieve" | "order" | "held" => put_retrieval(rt, alloc, &mut line, call, case)?,
         "open" => put_opened_reply(alloc, &mut line, case)?,
         _ => return Err(BadCase::Unfit),
     }
@@ -65,14 +65,43 @@ fn put_retrieval<R: Threads + Sync>(
     rt: &R,
     alloc: Global,
     line: &mut String,
+    call: &str,
     case: Case,
 ) -> Result<(), BadCase> {
     let mut words = SplitMix64::seed_from_u64(case.number("stream") as u64);
     let (secret, keys) = keyed(alloc, case, &mut words)?;
     let query = query(alloc, case, &secret, &mut words)?;
-    put_expansion(alloc, line, case, &secret, &keys, &query)?;
-    put_reply(rt, alloc, line, case, &secret, &keys, &query)?;
-    Ok(put_ciphers(alloc, line, &[query])?)
+    put_found(rt, alloc, line, call, case, &secret, &keys, &query)?;
+    put_asked(alloc, line, call, query)
+}
+
+/// The digest of a query, where that is known.
+fn put_asked(alloc: Global, line: &mut String, call: &str, query: Cipher) -> Result<(), BadCase> {
+    if call == "retrieve" {
+        put_ciphers(alloc, line, &[query])?;
+    }
+    Ok(())
+}
+
+/// What comes of a query, and what the gate of the case was told.
+fn put_found<R: Threads + Sync>(
+    rt: &R,
+    alloc: Global,
+    line: &mut String,
+    call: &str,
+    case: Case,
+    secret: &Secret,
+    keys: &KeySet,
+    query: &Cipher,
+) -> Result<(), BadCase>
+    requires { keys_degree keys.now ≡ ciphertext_degree query.now }
+{
+    let gate = Watch::of(case);
+    if call == "retrieve" {
+        put_expansion(alloc, line, case, secret, keys, query)?;
+    }
+    put_reply(rt, alloc, line, call, case, secret, keys, query, &gate)?;
+    Ok(gate.put(line, call)?)
 }
 
 /// What the ciphertexts of the expanded query open to, and their digests.
@@ -91,20 +120,24 @@ fn put_expansion(
     Ok(put_each(alloc, line, &expanded)?)
 }
 
-/// The digest of the reply, and what it opens to.
+/// What the reply opens to, behind its digest where that is known.
 fn put_reply<R: Threads + Sync>(
     rt: &R,
     alloc: Global,
     line: &mut String,
+    call: &str,
     case: Case,
     secret: &Secret,
     keys: &KeySet,
     query: &Cipher,
+    gate: &Watch,
 ) -> Result<(), BadCase>
     requires { keys_degree keys.now ≡ ciphertext_degree query.now }
 {
-    let reply = replied(rt, alloc, case, keys, query)?;
-    put_ciphers(alloc, line, &reply)?;
+    let reply = replied(rt, alloc, case, keys, query, gate)?;
+    if call == "retrieve" {
+        put_ciphers(alloc, line, &reply)?;
+    }
     put_row(alloc, line, secret, &reply)
 }
 
@@ -170,6 +203,7 @@ fn replied<R: Threads + Sync>(
     case: Case,
     keys: &KeySet,
     query: &Cipher,
+    gate: &Watch,
 ) -> Result<Vec<Cipher>, BadCase>
     requires { keys_degree keys.now ≡ ciphertext_degree query.now }
 {
@@ -179,7 +213,8 @@ fn replied<R: Threads + Sync>(
     }
     let table = table(alloc, case, degree_of(query.degree())?, rows)?;
     let mut steps = Steps::begin();
-    Ok(answer(rt, alloc, &table, keys, query, 2, &OpenGate, &mut steps)?)
+    let workers = case.number("workers").clamp(1, 64);
+    Ok(answer(rt, alloc, &table, keys, query, workers, gate, &mut steps)?)
 }
 
 /// The bytes that a reply opens to, or the first place that spells none.

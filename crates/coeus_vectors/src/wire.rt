@@ -5,15 +5,16 @@ use crate::cases::{BadCase, Case};
 use crate::lines::{put, put_bytes, put_text};
 use crate::noise::tested;
 use co_link::{Bytes, Target};
+use co_noise::Tested;
 use co_wire::{
     WireFault, read_ciphers, record_chunks, reply_length, request_length, write_ciphers,
 };
-use std::alloc::Global;
+use std::alloc::{AllocError, Global};
 
 pub fn line(alloc: Global, call: &str, case: Case) -> Result<String, BadCase> {
     let mut line = String::new(alloc);
     match call {
-        "lengths" => put_lengths(&mut line, case)?,
+        "lengths" => put_lengths(&mut line, &tested(case)?)?,
         "write" => put_written(alloc, &mut line, case)?,
         "read" => put_reading(alloc, &mut line, case)?,
         _ => return Err(BadCase::Unfit),
@@ -22,18 +23,17 @@ pub fn line(alloc: Global, call: &str, case: Case) -> Result<String, BadCase> {
 }
 
 /// The pieces of a record, then the lengths of the requests of each target, and of the replies.
-fn put_lengths(line: &mut String, case: Case) -> Result<(), BadCase> {
-    let tested = tested(case)?;
+pub fn put_lengths(line: &mut String, tested: &Tested) -> Result<(), AllocError> {
     put(line, record_chunks(tested.shape().degree()) as u128)?;
-    put(line, request_length(&tested, Target::Public) as u128)?;
-    put(line, request_length(&tested, Target::Keys) as u128)?;
-    put(line, request_length(&tested, Target::Score) as u128)?;
-    put(line, request_length(&tested, Target::Meta) as u128)?;
-    put(line, request_length(&tested, Target::Document) as u128)?;
-    put(line, reply_length(&tested, Target::Keys) as u128)?;
-    put(line, reply_length(&tested, Target::Score) as u128)?;
-    put(line, reply_length(&tested, Target::Meta) as u128)?;
-    put(line, reply_length(&tested, Target::Document) as u128)?;
+    put(line, request_length(tested, Target::Public) as u128)?;
+    put(line, request_length(tested, Target::Keys) as u128)?;
+    put(line, request_length(tested, Target::Score) as u128)?;
+    put(line, request_length(tested, Target::Meta) as u128)?;
+    put(line, request_length(tested, Target::Document) as u128)?;
+    put(line, reply_length(tested, Target::Keys) as u128)?;
+    put(line, reply_length(tested, Target::Score) as u128)?;
+    put(line, reply_length(tested, Target::Meta) as u128)?;
+    put(line, reply_length(tested, Target::Document) as u128)?;
     Ok(())
 }
 
@@ -76,7 +76,7 @@ fn put_fault(line: &mut String, fault: WireFault) -> Result<(), BadCase> {
 
 /// Zeros, of the length that a case says, with the bytes put in that it lists: each as a place, a
 /// stroke and the bytes in hexadecimal.
-fn put_in(alloc: Global, case: Case) -> Result<Vec<u8>, BadCase> {
+pub fn put_in(alloc: Global, case: Case) -> Result<Vec<u8>, BadCase> {
     let mut bytes = vec![in alloc; 0; case.number("length") as usize]?;
     for change in case.text("put").split_ascii_whitespace() {
         let Some((at, what)) = change.split_once('/') else {

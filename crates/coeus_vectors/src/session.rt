@@ -1,0 +1,140 @@
+//! Sessions over a library: requests in order, and what is replied.
+
+ghost use Rattle.std.specs.Prelude.{◌≡◌, true, OnOk};
+
+use crate::cases::{BadCase, Case};
+use crate::library::library;
+use crate::lines::{put, put_digest};
+use crate::noise::passed;
+use crate::wire::{put_in, put_lengths};
+use co_link::{Bytes, Dial, Reply, Request, Target};
+use co_server::{Loaded, LocalLink, Runs};
+use std::alloc::{AllocError, Global};
+
+pub fn line<R: Runs>(rt: &R, alloc: Global, call: &str, case: Case) -> Result<String, BadCase>
+    requires { R.is_shared }
+{
+    let mut line = String::new(alloc);
+    match call {
+        "lengths" => put_library_lengths(alloc, &mut line, case)?,
+        "replies" | "statuses" => put_session(rt, alloc, &mut line, call, case)?,
+        _ => return Err(BadCase::Unfit),
+    }
+    Ok(line)
+}
+
+/// The lengths of the requests to a library, and of the replies.
+fn put_library_lengths(alloc: Global, line: &mut String, case: Case) -> Result<(), BadCase> {
+    let library = library(alloc, case)?;
+    let tested = passed(library.shape())?;
+    Ok(put_lengths(line, &tested)?)
+}
+
+/// The library of a case, made ready for replies.
+fn loaded(alloc: Global, case: Case) -> Result<Loaded, BadCase> {
+    let library = library(alloc, case)?;
+    let tested = passed(library.shape())?;
+    Ok(Loaded::new(alloc, library, tested)?)
+}
+
+/// The replies of a new session, and how many exchanges its link then tells.
+fn put_session<R: Runs>(
+    rt: &R,
+    alloc: Global,
+    line: &mut String,
+    call: &str,
+    case: Case,
+) -> Result<(), BadCase>
+    requires { R.is_shared }
+{
+    let loaded = loaded(alloc, case)?;
+    let mut link = LocalLink::new(rt, alloc, &loaded, 2);
+    put_replies(alloc, line, call, case, &mut link)?;
+    put(line, link.exchanges().len() as u128)?;
+    Ok(())
+}
+
+/// What comes of each step of a case.
+fn put_replies<K: Dial>(
+    alloc: Global,
+    line: &mut String,
+    call: &str,
+    case: Case,
+    link: &mut K,
+) -> Result<(), BadCase>
+    requires { K.is_ready link.old ≡ true }
+{
+    for step in case.steps()? {
+        put_step(alloc, line, call, Case::new(step), link)?;
+    }
+    Ok(())
+}
+
+/// Dials, or asks.
+fn put_step<K: Dial>(
+    alloc: Global,
+    line: &mut String,
+    call: &str,
+    step: Case,
+    link: &mut K,
+) -> Result<(), BadCase>
+    requires { K.is_ready link.old ≡ true }
+    ensures { OnOk result (K.is_ready link.new ≡ true) }
+{
+    if step.text("target") == "dial" {
+        return dialled(link);
+    }
+    let reply = asked(alloc, link, step)?;
+    put_reply(alloc, line, call, &reply)?;
+    Ok(())
+}
+
+fn dialled<K: Dial>(link: &mut K) -> Result<(), BadCase>
+    ensures { OnOk result (K.is_ready link.new ≡ true) }
+{
+    match link.dial("localhost", 8080) {
+        Ok(()) => Ok(()),
+        Err(_) => return Err(BadCase::OutOfMemory),
+    }
+}
+
+/// The reply to a request.
+fn asked<K: Dial>(alloc: Global, link: &mut K, step: Case) -> Result<Reply, BadCase>
+    requires { K.is_ready link.old ≡ true }
+    ensures { OnOk result (K.is_ready link.new ≡ true) }
+{
+    let request = request(alloc, step)?;
+    match link.exchange(request, u64::MAX) {
+        Ok(reply) => Ok(reply),
+        Err(_) => return Err(BadCase::OutOfMemory),
+    }
+}
+
+/// The request of a step, whose body is zeros with some bytes put in.
+fn request(alloc: Global, step: Case) -> Result<Request, BadCase> {
+    let target = match step.text("target") {
+        "public" => Target::Public,
+        "keys" => Target::Keys,
+        "score" => Target::Score,
+        "meta" => Target::Meta,
+        "document" => Target::Document,
+        _ => return Err(BadCase::Unfit),
+    };
+    let body = Bytes::from_vec(put_in(alloc, step)?);
+    Ok(Request { target, body })
+}
+
+/// The status and the length of a reply, and its digest where it is known.
+fn put_reply(
+    alloc: Global,
+    line: &mut String,
+    call: &str,
+    reply: &Reply,
+) -> Result<(), AllocError> {
+    put(line, reply.status as u128)?;
+    put(line, reply.body.len() as u128)?;
+    if call == "replies" {
+        put_digest(alloc, line, reply.body.as_slice())?;
+    }
+    Ok(())
+}
