@@ -11,37 +11,30 @@ use co_ring::{Modulus, Poly};
 use co_slots::{decode_slots, encode_slots};
 use rand_core::Rng;
 use rand_xoshiro::SplitMix64;
-use std::alloc::Global;
+use std::alloc::{AllocError, Global};
 
-pub fn line<R: Stand>(
-    alloc: Global,
-    call: &str,
-    case: Case,
-    rng: &mut R,
-) -> Result<String, BadCase> {
-    let mut line = String::new(alloc);
-    let secret = drawn(alloc, case, rng)?;
-    put_call(alloc, &mut line, call, case, &secret, rng)?;
+pub fn line<R: Stand>(case: Case, rng: &mut R) -> Result<String, BadCase> {
+    let mut line = String::new(case.alloc);
+    let secret = drawn(case, rng)?;
+    put_call(&mut line, case, &secret, rng)?;
     put(&mut line, rng.stand() as u128)?;
     Ok(line)
 }
 
 fn put_call<R: Rng>(
-    alloc: Global,
     line: &mut String,
-    call: &str,
     case: Case,
     secret: &Secret,
     rng: &mut R,
 ) -> Result<(), BadCase> {
-    match call {
-        "secret" => put_secret(alloc, line, secret),
-        "uniform" => put_uniform(alloc, line, case, rng),
-        "error" => put_error(alloc, line, case, rng),
-        "decrypt" => put_decryption(alloc, line, case, secret),
-        "encrypt" => put_encryption(alloc, line, case, secret, rng),
-        "times" => put_multiple(alloc, line, case, secret, rng),
-        "sum" | "difference" | "product" => put_combined(alloc, line, call, case, secret, rng),
+    match case.call() {
+        "secret" => put_secret(case.alloc, line, secret),
+        "uniform" => put_uniform(line, case, rng),
+        "error" => put_error(line, case, rng),
+        "decrypt" => put_decryption(line, case, secret),
+        "encrypt" => put_encryption(line, case, secret, rng),
+        "times" => put_multiple(line, case, secret, rng),
+        "sum" | "difference" | "product" => put_combined(line, case, secret, rng),
         _ => Err(BadCase::Unfit),
     }
 }
@@ -51,36 +44,25 @@ fn put_secret(alloc: Global, line: &mut String, secret: &Secret) -> Result<(), B
     Ok(put_pair(line, &residues)?)
 }
 
-fn put_uniform<R: Rng>(
-    alloc: Global,
-    line: &mut String,
-    case: Case,
-    rng: &mut R,
-) -> Result<(), BadCase> {
-    let drawn = sample_uniform(alloc, case.degree()?, rng)?;
+fn put_uniform<R: Rng>(line: &mut String, case: Case, rng: &mut R) -> Result<(), BadCase> {
+    let drawn = sample_uniform(case.alloc, case.degree()?, rng)?;
     Ok(put_pair(line, &drawn)?)
 }
 
-fn put_error<R: Rng>(
-    alloc: Global,
-    line: &mut String,
-    case: Case,
-    rng: &mut R,
-) -> Result<(), BadCase> {
-    let drawn = sample_error(alloc, case.degree()?, rng)?;
+fn put_error<R: Rng>(line: &mut String, case: Case, rng: &mut R) -> Result<(), BadCase> {
+    let drawn = sample_error(case.alloc, case.degree()?, rng)?;
     Ok(put_pair(line, &drawn)?)
 }
 
 /// A secret, behind which some words are passed over.
-pub fn drawn<R: Rng>(alloc: Global, case: Case, rng: &mut R) -> Result<Secret, BadCase> {
-    let secret = sample_secret(alloc, case.degree()?, rng)?;
+pub fn drawn<R: Rng>(case: Case, rng: &mut R) -> Result<Secret, BadCase> {
+    let secret = sample_secret(case.alloc, case.degree()?, rng)?;
     skip(rng, case.number("skip"));
     Ok(secret)
 }
 
 /// The encryption of the message of a field.
 pub fn encrypted<R: Rng>(
-    alloc: Global,
     case: Case,
     name: &str,
     secret: &Secret,
@@ -88,16 +70,15 @@ pub fn encrypted<R: Rng>(
 ) -> Result<Cipher, BadCase>
     ensures { IfOk result (λ c. ciphertext_degree c ≡ length secret.now) }
 {
-    let message = case.poly(alloc, Modulus::Plain, name)?;
+    let message = case.poly(Modulus::Plain, name)?;
     if message.degree() != secret.degree() {
         return Err(BadCase::Unfit);
     }
-    Ok(encrypt(alloc, secret, &message, rng)?)
+    Ok(encrypt(case.alloc, secret, &message, rng)?)
 }
 
 /// The encryption of the slots of a field.
 pub fn encrypted_slots(
-    alloc: Global,
     case: Case,
     name: &str,
     secret: &Secret,
@@ -105,12 +86,12 @@ pub fn encrypted_slots(
 ) -> Result<Cipher, BadCase>
     ensures { IfOk result (λ c. ciphertext_degree c ≡ length secret.now) }
 {
-    let slots = case.residues(alloc, Modulus::Plain, name)?;
-    let message = encode_slots(alloc, degree_of(slots.len())?, &slots)?;
+    let slots = case.residues(Modulus::Plain, name)?;
+    let message = encode_slots(case.alloc, degree_of(slots.len())?, &slots)?;
     if message.degree() != secret.degree() {
         return Err(BadCase::Unfit);
     }
-    Ok(encrypt(alloc, secret, &message, rng)?)
+    Ok(encrypt(case.alloc, secret, &message, rng)?)
 }
 
 /// Whether all ciphertexts have so many coefficients.
@@ -129,7 +110,7 @@ fn opened(alloc: Global, secret: &Secret, cipher: &Cipher) -> Result<Poly, BadCa
     Ok(decrypt(alloc, secret, cipher)?)
 }
 
-/// What a ciphertext opens to.
+/// The coefficients that a ciphertext opens to.
 fn put_opened(
     alloc: Global,
     line: &mut String,
@@ -140,16 +121,25 @@ fn put_opened(
     Ok(())
 }
 
-/// The slots that a ciphertext opens to.
-fn put_opened_slots(
+/// What of a message is put: its coefficients, or its slots.
+#[derive(Clone, Copy)]
+pub enum Shown {
+    Coefficients,
+    Slots,
+}
+
+fn put_message(
     alloc: Global,
     line: &mut String,
-    secret: &Secret,
-    cipher: &Cipher,
-) -> Result<(), BadCase> {
-    let message = opened(alloc, secret, cipher)?;
-    put_words(line, &decode_slots(alloc, &message)?)?;
-    Ok(())
+    message: &Poly,
+    shown: Shown,
+) -> Result<(), AllocError>
+    requires { message.now.modulus ≡ Modulus.Plain }
+{
+    match shown {
+        Shown::Coefficients => put_poly(line, message),
+        Shown::Slots => put_words(line, &decode_slots(alloc, message)?),
+    }
 }
 
 /// What each ciphertext opens to.
@@ -158,22 +148,11 @@ pub fn put_all_opened(
     line: &mut String,
     secret: &Secret,
     ciphers: &[Cipher],
+    shown: Shown,
 ) -> Result<(), BadCase> {
     for cipher in ciphers {
-        put_opened(alloc, line, secret, cipher)?;
-    }
-    Ok(())
-}
-
-/// The slots that each ciphertext opens to.
-pub fn put_all_slots(
-    alloc: Global,
-    line: &mut String,
-    secret: &Secret,
-    ciphers: &[Cipher],
-) -> Result<(), BadCase> {
-    for cipher in ciphers {
-        put_opened_slots(alloc, line, secret, cipher)?;
+        let message = opened(alloc, secret, cipher)?;
+        put_message(alloc, line, &message, shown)?;
     }
     Ok(())
 }
@@ -191,30 +170,24 @@ pub fn put_cipher(
 }
 
 fn put_encryption<R: Rng>(
-    alloc: Global,
     line: &mut String,
     case: Case,
     secret: &Secret,
     rng: &mut R,
 ) -> Result<(), BadCase> {
-    let cipher = encrypted(alloc, case, "message", secret, rng)?;
-    put_cipher(alloc, line, secret, &cipher)
+    let cipher = encrypted(case, "message", secret, rng)?;
+    put_cipher(case.alloc, line, secret, &cipher)
 }
 
-fn put_decryption(
-    alloc: Global,
-    line: &mut String,
-    case: Case,
-    secret: &Secret,
-) -> Result<(), BadCase> {
-    let cipher = given(alloc, case)?;
-    put_opened(alloc, line, secret, &cipher)
+fn put_decryption(line: &mut String, case: Case, secret: &Secret) -> Result<(), BadCase> {
+    let cipher = given(case)?;
+    put_opened(case.alloc, line, secret, &cipher)
 }
 
 /// The ciphertext whose parts a case lists.
-pub fn given(alloc: Global, case: Case) -> Result<Cipher, BadCase> {
-    let c0 = case.pair(alloc, "c0")?;
-    let c1 = case.pair(alloc, "c1")?;
+pub fn given(case: Case) -> Result<Cipher, BadCase> {
+    let c0 = case.pair("c0")?;
+    let c1 = case.pair("c1")?;
     if c0.degree() != c1.degree() {
         return Err(BadCase::Unfit);
     }
@@ -223,58 +196,49 @@ pub fn given(alloc: Global, case: Case) -> Result<Cipher, BadCase> {
 
 /// What a sum, a difference or a product with a plain polynomial opens to, and its digest.
 fn put_combined<R: Rng>(
-    alloc: Global,
     line: &mut String,
-    call: &str,
     case: Case,
     secret: &Secret,
     rng: &mut R,
 ) -> Result<(), BadCase> {
-    let one = encrypted(alloc, case, "one", secret, rng)?;
-    let other = encrypted(alloc, case, "other", secret, rng)?;
-    let combined = combined(alloc, call, case, one, &other)?;
-    put_opened(alloc, line, secret, &combined)?;
-    Ok(put_ciphers(alloc, line, &[combined])?)
+    let one = encrypted(case, "one", secret, rng)?;
+    let other = encrypted(case, "other", secret, rng)?;
+    let combined = combined(case, one, &other)?;
+    put_opened(case.alloc, line, secret, &combined)?;
+    Ok(put_ciphers(case.alloc, line, &[combined])?)
 }
 
-fn combined(
-    alloc: Global,
-    call: &str,
-    case: Case,
-    mut one: Cipher,
-    other: &Cipher,
-) -> Result<Cipher, BadCase> {
+fn combined(case: Case, mut one: Cipher, other: &Cipher) -> Result<Cipher, BadCase> {
     if one.degree() != other.degree() {
         return Err(BadCase::Unfit);
     }
-    match call {
+    match case.call() {
         "sum" => one.add_in(other),
         "difference" => one.sub_in(other),
-        _ => return plain_product(alloc, case, &one),
+        _ => return plain_product(case, &one),
     }
     Ok(one)
 }
 
-fn plain_product(alloc: Global, case: Case, cipher: &Cipher) -> Result<Cipher, BadCase> {
-    let plain = case.poly(alloc, Modulus::Plain, "plain")?;
+fn plain_product(case: Case, cipher: &Cipher) -> Result<Cipher, BadCase> {
+    let plain = case.poly(Modulus::Plain, "plain")?;
     if plain.degree() != cipher.degree() {
         return Err(BadCase::Unfit);
     }
-    Ok(cipher.mul_plain(alloc, &plain)?)
+    Ok(cipher.mul_plain(case.alloc, &plain)?)
 }
 
 /// What so many times an encryption opens to.
 fn put_multiple<R: Rng>(
-    alloc: Global,
     line: &mut String,
     case: Case,
     secret: &Secret,
     rng: &mut R,
 ) -> Result<(), BadCase> {
-    let one = encrypted(alloc, case, "message", secret, rng)?;
-    let mut sum = Cipher::zero(alloc, degree_of(one.degree())?)?;
+    let one = encrypted(case, "message", secret, rng)?;
+    let mut sum = Cipher::zero(case.alloc, degree_of(one.degree())?)?;
     add_times(&mut sum, &one, case.number("count"));
-    put_opened(alloc, line, secret, &sum)
+    put_opened(case.alloc, line, secret, &sum)
 }
 
 fn add_times(sum: &mut Cipher, one: &Cipher, count: u32)

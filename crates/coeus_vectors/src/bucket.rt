@@ -8,23 +8,23 @@ use crate::lines::{put, put_numbers, put_text};
 use co_bucket::{
     MOST_ITEMS, PlaceFault, bucket_lists, buckets, candidates, place, record_rows, rows_needed,
 };
-use std::alloc::{AllocError, Global};
+use std::alloc::AllocError;
 
-pub fn line(alloc: Global, call: &str, case: Case) -> Result<String, BadCase> {
-    let mut line = String::new(alloc);
-    match call {
-        "buckets" => put_buckets(alloc, &mut line, case)?,
+pub fn line(case: Case) -> Result<String, BadCase> {
+    let mut line = String::new(case.alloc);
+    match case.call() {
+        "buckets" => put_buckets(&mut line, case)?,
         "candidates" => put_candidates(&mut line, case)?,
-        "lengths" => put_lists(alloc, &mut line, case, false)?,
-        "lists" => put_lists(alloc, &mut line, case, true)?,
-        "place" => put_placement(alloc, &mut line, case)?,
+        "lengths" => put_lists(&mut line, case, false)?,
+        "lists" => put_lists(&mut line, case, true)?,
+        "place" => put_placement(&mut line, case)?,
         _ => return Err(BadCase::Unfit),
     }
     Ok(line)
 }
 
-fn put_buckets(alloc: Global, line: &mut String, case: Case) -> Result<(), BadCase> {
-    for hits in case.numbers(alloc, "hits")?.iter() {
+fn put_buckets(line: &mut String, case: Case) -> Result<(), BadCase> {
+    for hits in case.numbers("hits")?.iter() {
         if *hits == 0 || *hits as usize > MOST_ITEMS {
             return Err(BadCase::Unfit);
         }
@@ -44,7 +44,7 @@ fn put_candidates(line: &mut String, case: Case) -> Result<(), BadCase> {
 }
 
 /// The rows of records that are needed, by both calls, and the lists, or their lengths.
-fn put_lists(alloc: Global, line: &mut String, case: Case, whole: bool) -> Result<(), BadCase> {
+fn put_lists(line: &mut String, case: Case, whole: bool) -> Result<(), BadCase> {
     let hits = case.number("hits");
     if hits == 0 || hits as usize > MOST_ITEMS {
         return Err(BadCase::Unfit);
@@ -52,7 +52,7 @@ fn put_lists(alloc: Global, line: &mut String, case: Case, whole: bool) -> Resul
     let (degree, salt) = (case.number("degree"), case.number("salt"));
     let documents = case.number("documents");
     let count = buckets(hits);
-    let lists = bucket_lists(alloc, salt, count, documents)?;
+    let lists = bucket_lists(case.alloc, salt, count, documents)?;
     put(line, record_rows(&lists, degree) as u128)?;
     put(line, rows_needed(degree, documents, hits, salt) as u128)?;
     for bucket in 0..count {
@@ -68,9 +68,9 @@ fn put_lists(alloc: Global, line: &mut String, case: Case, whole: bool) -> Resul
 }
 
 /// The candidates that a field lists, three numbers an item.
-fn rows(alloc: Global, case: Case) -> Result<Vec<[u32; 3]>, AllocError> {
-    let numbers = case.numbers(alloc, "candidates")?;
-    let mut all = Vec::new(alloc);
+fn rows(case: Case) -> Result<Vec<[u32; 3]>, AllocError> {
+    let numbers = case.numbers("candidates")?;
+    let mut all = Vec::new(case.alloc);
     for row in numbers.chunks_exact(3) {
         if let [first, second, third] = row {
             all.push([*first, *second, *third])?;
@@ -86,13 +86,13 @@ fn are_below(rows: &[[u32; 3]], buckets: u32) -> bool
 }
 
 /// The position of the item of each bucket, or the witness that there is no placement.
-fn put_placement(alloc: Global, line: &mut String, case: Case) -> Result<(), BadCase> {
-    let rows = rows(alloc, case)?;
+fn put_placement(line: &mut String, case: Case) -> Result<(), BadCase> {
+    let rows = rows(case)?;
     let buckets = case.number("buckets");
     if rows.len() > MOST_ITEMS || !are_below(&rows, buckets) {
         return Err(BadCase::Unfit);
     }
-    match place(alloc, &rows, buckets) {
+    match place(case.alloc, &rows, buckets) {
         Ok(placement) => Ok(put_placed(line, placement.as_slice())?),
         Err(fault) => put_witness(line, &fault),
     }

@@ -28,12 +28,18 @@ impl From<AllocError> for BadCase {
 /// One case of a layer.
 #[derive(Clone, Copy)]
 pub struct Case<'a> {
+    pub alloc: Global,
     fields: &'a Value,
 }
 
 impl<'a> Case<'a> {
-    pub fn new(fields: &'a Value) -> Self {
-        Case { fields }
+    pub fn new(alloc: Global, fields: &'a Value) -> Self {
+        Case { alloc, fields }
+    }
+
+    /// The name of its call.
+    pub fn call(&self) -> &'a str {
+        self.text("call")
     }
 
     /// The text of a field, empty where there is none.
@@ -56,16 +62,16 @@ impl<'a> Case<'a> {
         self.text(name).parse().unwrap_or(0)
     }
 
-    pub fn numbers(&self, alloc: Global, name: &str) -> Result<Vec<u32>, AllocError> {
-        let mut all = Vec::new(alloc);
+    pub fn numbers(&self, name: &str) -> Result<Vec<u32>, AllocError> {
+        let mut all = Vec::new(self.alloc);
         for word in self.text(name).split_ascii_whitespace() {
             all.push(word.parse().unwrap_or(0))?;
         }
         Ok(all)
     }
 
-    pub fn words(&self, alloc: Global, name: &str) -> Result<Vec<u64>, AllocError> {
-        let mut all = Vec::new(alloc);
+    pub fn words(&self, name: &str) -> Result<Vec<u64>, AllocError> {
+        let mut all = Vec::new(self.alloc);
         for word in self.text(name).split_ascii_whitespace() {
             all.push(word.parse().unwrap_or(0))?;
         }
@@ -73,8 +79,8 @@ impl<'a> Case<'a> {
     }
 
     /// The bytes that a field spells in hexadecimal.
-    pub fn bytes(&self, alloc: Global, name: &str) -> Result<Vec<u8>, BadCase> {
-        match hex::decode(alloc, self.text(name)) {
+    pub fn bytes(&self, name: &str) -> Result<Vec<u8>, BadCase> {
+        match hex::decode(self.alloc, self.text(name)) {
             Ok(bytes) => Ok(bytes),
             Err(_) => Err(BadCase::Unfit),
         }
@@ -95,15 +101,10 @@ impl<'a> Case<'a> {
     }
 
     /// The numbers of a field, reduced.
-    pub fn residues(
-        &self,
-        alloc: Global,
-        modulus: Modulus,
-        name: &str,
-    ) -> Result<Vec<u64>, AllocError>
+    pub fn residues(&self, modulus: Modulus, name: &str) -> Result<Vec<u64>, AllocError>
         ensures { IfOk result (λ v. AreBelow (value_of modulus) v.items) }
     {
-        let mut all = Vec::new(alloc);
+        let mut all = Vec::new(self.alloc);
         for word in self.text(name).split_ascii_whitespace() {
             all.push(word.parse::<u64>().unwrap_or(0) % modulus.value())?;
         }
@@ -111,18 +112,18 @@ impl<'a> Case<'a> {
     }
 
     /// The polynomial whose coefficients a field lists.
-    pub fn poly(&self, alloc: Global, modulus: Modulus, name: &str) -> Result<Poly, BadCase>
+    pub fn poly(&self, modulus: Modulus, name: &str) -> Result<Poly, BadCase>
         ensures { IfOk result (λ p. p.modulus ≡ modulus) }
     {
-        let coeffs = self.residues(alloc, modulus, name)?;
+        let coeffs = self.residues(modulus, name)?;
         let degree = degree_of(coeffs.len())?;
-        Ok(Poly::from_coeffs(alloc, modulus, degree, &coeffs)?)
+        Ok(Poly::from_coeffs(self.alloc, modulus, degree, &coeffs)?)
     }
 
-    fn wholes(&self, alloc: Global, name: &str) -> Result<Vec<u128>, AllocError>
+    fn wholes(&self, name: &str) -> Result<Vec<u128>, AllocError>
         ensures { IfOk result (λ v. AreBelow q v.items) }
     {
-        let mut all = Vec::new(alloc);
+        let mut all = Vec::new(self.alloc);
         for word in self.text(name).split_ascii_whitespace() {
             all.push(word.parse::<u128>().unwrap_or(0) % CIPHER_MODULUS)?;
         }
@@ -130,10 +131,10 @@ impl<'a> Case<'a> {
     }
 
     /// The polynomial modulo q whose coefficients a field lists.
-    pub fn pair(&self, alloc: Global, name: &str) -> Result<Pair, BadCase> {
-        let coeffs = self.wholes(alloc, name)?;
+    pub fn pair(&self, name: &str) -> Result<Pair, BadCase> {
+        let coeffs = self.wholes(name)?;
         let degree = degree_of(coeffs.len())?;
-        Ok(Pair::split(alloc, degree, &coeffs)?)
+        Ok(Pair::split(self.alloc, degree, &coeffs)?)
     }
 }
 

@@ -9,13 +9,13 @@ use co_link::Bytes;
 use co_wire::{WireFault, read_public, read_shape_fields, write_public};
 use std::alloc::{AllocError, Global};
 
-pub fn line(alloc: Global, call: &str, case: Case) -> Result<String, BadCase> {
-    let mut line = String::new(alloc);
-    let library = library(alloc, case)?;
-    match call {
-        "publish" => put_public(alloc, &mut line, &library)?,
-        "file" => put_file_faults(alloc, &mut line, &library, case.text("changes"))?,
-        "public" => put_public_faults(alloc, &mut line, &library, case.text("changes"))?,
+pub fn line(case: Case) -> Result<String, BadCase> {
+    let mut line = String::new(case.alloc);
+    let library = library(case)?;
+    match case.call() {
+        "publish" => put_public(case.alloc, &mut line, &library)?,
+        "file" => put_file_faults(case.alloc, &mut line, &library, case.text("changes"))?,
+        "public" => put_public_faults(case.alloc, &mut line, &library, case.text("changes"))?,
         _ => return Err(BadCase::Unfit),
     }
     Ok(line)
@@ -31,8 +31,8 @@ fn settings(case: Case) -> Settings {
     }
 }
 
-pub fn library(alloc: Global, case: Case) -> Result<Library, BadCase> {
-    match publish(alloc, &corpus(alloc, case)?, &settings(case)) {
+pub fn library(case: Case) -> Result<Library, BadCase> {
+    match publish(case.alloc, &corpus(case)?, &settings(case)) {
         Ok(library) => Ok(library),
         Err(_) => return Err(BadCase::Unfit),
     }

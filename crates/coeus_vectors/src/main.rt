@@ -33,7 +33,6 @@ mod wire;
 use anyhow::{Error, bail};
 use cases::{BadCase, Case};
 use serde_json::Value;
-use std::alloc::Global;
 use std::fs;
 use std::thread::Threads;
 
@@ -43,29 +42,23 @@ const LAYERS: [&str; 16] = [
     "tfidf", "pack", "library", "wire", "session",
 ];
 
-fn line_of<R: Threads + Sync>(
-    rt: &R,
-    alloc: Global,
-    layer: &str,
-    call: &str,
-    case: Case,
-) -> Result<String, BadCase> {
+fn line_of<R: Threads + Sync>(rt: &R, layer: &str, case: Case) -> Result<String, BadCase> {
     match layer {
-        "ring" => ring::line(alloc, call, case),
-        "rns" => rns::line(alloc, call, case),
-        "slots" => slots::line(alloc, call, case),
-        "noise" => noise::line(alloc, call, case),
-        "bfv" | "switch" => streams::line(alloc, layer, call, case),
-        "rot" => rot::line(alloc, call, case),
-        "matvec" => matvec::line(rt, alloc, call, case),
-        "pir" => pir::line(rt, alloc, call, case),
-        "bucket" => bucket::line(alloc, call, case),
-        "text" => text::line(alloc, call, case),
-        "tfidf" => tfidf::line(alloc, call, case),
-        "pack" => pack::line(alloc, call, case),
-        "library" => library::line(alloc, call, case),
-        "wire" => wire::line(alloc, call, case),
-        "session" => session::line(rt, alloc, call, case),
+        "ring" => ring::line(case),
+        "rns" => rns::line(case),
+        "slots" => slots::line(case),
+        "noise" => noise::line(case),
+        "bfv" | "switch" => streams::line(layer, case),
+        "rot" => rot::line(case),
+        "matvec" => matvec::line(rt, case),
+        "pir" => pir::line(rt, case),
+        "bucket" => bucket::line(case),
+        "text" => text::line(case),
+        "tfidf" => tfidf::line(case),
+        "pack" => pack::line(case),
+        "library" => library::line(case),
+        "wire" => wire::line(case),
+        "session" => session::line(rt, case),
         _ => Err(BadCase::Unfit),
     }
 }
@@ -84,9 +77,9 @@ fn main(rt: HostRuntime) -> Result<(), Error> {
             bail!("no list of cases");
         };
         for (number, fields) in cases.iter().enumerate() {
-            let case = Case::new(fields);
-            let call = case.text("call");
-            match line_of(&rt, rt.alloc(), layer, call, case) {
+            let case = Case::new(rt.alloc(), fields);
+            let call = case.call();
+            match line_of(&rt, layer, case) {
                 Ok(line) => println!(rt; "{layer} {number} {call}{line}")?,
                 Err(_) => println!(rt; "{layer} {number} {call}: no line")?,
             }

@@ -4,7 +4,7 @@ ghost use Rattle.std.specs.Prelude.{ℕ, ◌≡◌, ◌+◌, ◌<◌, length, sl
 ghost use Rattle.co_matvec.specs.Weights.{AreEntries, Precedes};
 ghost use Rattle.co_switch.specs.Keys.{keys_degree};
 
-use crate::bfv::{encrypted_slots, have_degree, put_all_slots};
+use crate::bfv::{Shown, encrypted_slots, have_degree, put_all_opened};
 use crate::cases::{BadCase, Case, degree_of};
 use crate::gates::Watch;
 use crate::lines::put_ciphers;
@@ -14,27 +14,22 @@ use co_matvec::{Weights, score};
 use co_switch::{KeySet, Steps};
 use rand_core::SeedableRng;
 use rand_xoshiro::SplitMix64;
-use std::alloc::{AllocError, Global};
+use std::alloc::AllocError;
 use std::thread::Threads;
 
-pub fn line<R: Threads + Sync>(
-    rt: &R,
-    alloc: Global,
-    call: &str,
-    case: Case,
-) -> Result<String, BadCase> {
-    let mut line = String::new(alloc);
-    match call {
-        "score" | "slots" | "order" | "held" => put_scores(rt, alloc, &mut line, call, case)?,
+pub fn line<R: Threads + Sync>(rt: &R, case: Case) -> Result<String, BadCase> {
+    let mut line = String::new(case.alloc);
+    match case.call() {
+        "score" | "slots" | "order" | "held" => put_scores(rt, &mut line, case)?,
         _ => return Err(BadCase::Unfit),
     }
     Ok(line)
 }
 
 /// The entries that a field lists, three numbers each: term, document and weight.
-fn entries(alloc: Global, case: Case) -> Result<Vec<(u32, u32, u16)>, AllocError> {
-    let numbers = case.numbers(alloc, "weights")?;
-    let mut all = Vec::new(alloc);
+fn entries(case: Case) -> Result<Vec<(u32, u32, u16)>, AllocError> {
+    let numbers = case.numbers("weights")?;
+    let mut all = Vec::new(case.alloc);
     for entry in numbers.chunks_exact(3) {
         if let [term, document, weight] = entry {
             all.push((*term, *document, u16::try_from(*weight).unwrap_or(0)))?;
@@ -90,36 +85,34 @@ fn are_entries(documents: u32, terms: u32, entries: &[(u32, u32, u16)]) -> bool
 }
 
 /// The weights of a case, of a secret's degree.
-fn weights(alloc: Global, case: Case, secret: &Secret) -> Result<Weights, BadCase>
+fn weights(case: Case, secret: &Secret) -> Result<Weights, BadCase>
     ensures { IfOk result (λ w. w.degree ≡ length secret.now) }
 {
     let degree = degree_of(secret.degree())?;
-    let entries = entries(alloc, case)?;
+    let entries = entries(case)?;
     let documents = case.number("documents");
     let terms = case.number("terms");
     if !are_entries(documents, terms, &entries) {
         return Err(BadCase::Unfit);
     }
-    Ok(Weights::new(alloc, degree, documents, terms, &entries)?)
+    Ok(Weights::new(case.alloc, degree, documents, terms, &entries)?)
 }
 
 /// The query of a case, drawn block by block.
 fn queries(
-    alloc: Global,
     case: Case,
     blocks: usize,
     secret: &Secret,
     words: &mut SplitMix64,
 ) -> Result<Vec<Cipher>, BadCase> {
-    let mut query = Vec::new(alloc);
-    match draw(alloc, case, blocks, secret, words, &mut query) {
+    let mut query = Vec::new(case.alloc);
+    match draw(case, blocks, secret, words, &mut query) {
         Ok(()) => Ok(query),
         Err(fault) => Err(fault),
     }
 }
 
 fn draw(
-    alloc: Global,
     case: Case,
     blocks: usize,
     secret: &Secret,
@@ -127,7 +120,7 @@ fn draw(
     query: &mut Vec<Cipher>,
 ) -> Result<(), BadCase> {
     for block in 0..blocks {
-        let cipher = block_query(alloc, case, block, secret, words)?;
+        let cipher = block_query(case, block, secret, words)?;
         keep(query, cipher)?;
     }
     Ok(())
@@ -139,20 +132,18 @@ fn keep(ciphers: &mut Vec<Cipher>, cipher: Cipher) -> Result<(), AllocError> {
 
 /// The ciphertext of a keyword block.
 fn block_query(
-    alloc: Global,
     case: Case,
     block: usize,
     secret: &Secret,
     words: &mut SplitMix64,
 ) -> Result<Cipher, BadCase> {
-    let name = format!(in alloc; "query{block}")?;
-    encrypted_slots(alloc, case, name.as_str(), secret, words)
+    let name = format!(in case.alloc; "query{block}")?;
+    encrypted_slots(case, name.as_str(), secret, words)
 }
 
 /// The replies to a query.
 fn replies<R: Threads + Sync>(
     rt: &R,
-    alloc: Global,
     case: Case,
     weights: &Weights,
     secret: &Secret,
@@ -168,30 +159,22 @@ fn replies<R: Threads + Sync>(
     }
     let workers = case.number("workers").clamp(1, 64);
     let mut steps = Steps::begin();
-    Ok(score(rt, alloc, weights, keys, query, workers, gate, &mut steps)?)
+    Ok(score(
+        rt, case.alloc, weights, keys, query, workers, gate, &mut steps,
+    )?)
 }
 
-fn put_scores<R: Threads + Sync>(
-    rt: &R,
-    alloc: Global,
-    line: &mut String,
-    call: &str,
-    case: Case,
-) -> Result<(), BadCase> {
+fn put_scores<R: Threads + Sync>(rt: &R, line: &mut String, case: Case) -> Result<(), BadCase> {
     let mut words = SplitMix64::seed_from_u64(case.number("stream") as u64);
-    let (secret, keys) = keyed(alloc, case, &mut words)?;
-    let weights = weights(alloc, case, &secret)?;
-    put_scores_by(
-        rt, alloc, line, call, case, &weights, &secret, &keys, &mut words,
-    )
+    let (secret, keys) = keyed(case, &mut words)?;
+    let weights = weights(case, &secret)?;
+    put_scores_by(rt, line, case, &weights, &secret, &keys, &mut words)
 }
 
 /// The scores of a case, and what its gate was told.
 fn put_scores_by<R: Threads + Sync>(
     rt: &R,
-    alloc: Global,
     line: &mut String,
-    call: &str,
     case: Case,
     weights: &Weights,
     secret: &Secret,
@@ -201,25 +184,24 @@ fn put_scores_by<R: Threads + Sync>(
     requires weights { weights.now.degree ≡ length secret.now }
     requires keys { keys_degree keys.now ≡ length secret.now }
 {
-    let query = queries(alloc, case, weights.keyword_blocks(), secret, words)?;
+    let query = queries(case, weights.keyword_blocks(), secret, words)?;
     let gate = Watch::of(case);
-    let replies = replies(rt, alloc, case, weights, secret, keys, &query, &gate)?;
-    put_found(alloc, line, call, secret, &query, &replies)?;
-    Ok(gate.put(line, call)?)
+    let replies = replies(rt, case, weights, secret, keys, &query, &gate)?;
+    put_found(line, case, secret, &query, &replies)?;
+    Ok(gate.put(line, case.call())?)
 }
 
 /// The slots that the replies open to, behind the digests of query and replies where they are known.
 fn put_found(
-    alloc: Global,
     line: &mut String,
-    call: &str,
+    case: Case,
     secret: &Secret,
     query: &[Cipher],
     replies: &[Cipher],
 ) -> Result<(), BadCase> {
-    if call == "score" {
-        put_ciphers(alloc, line, query)?;
-        put_ciphers(alloc, line, replies)?;
+    if case.call() == "score" {
+        put_ciphers(case.alloc, line, query)?;
+        put_ciphers(case.alloc, line, replies)?;
     }
-    put_all_slots(alloc, line, secret, replies)
+    put_all_opened(case.alloc, line, secret, replies, Shown::Slots)
 }

@@ -5,11 +5,10 @@ ghost use Rattle.std.specs.Prelude.{◌≡◌, IfOk};
 use crate::cases::{BadCase, Case};
 use crate::lines::{put, put_text};
 use co_noise::{Shape, TestFault, Tested, test};
-use std::alloc::Global;
 
-pub fn line(alloc: Global, call: &str, case: Case) -> Result<String, BadCase> {
-    let mut line = String::new(alloc);
-    match call {
+pub fn line(case: Case) -> Result<String, BadCase> {
+    let mut line = String::new(case.alloc);
+    match case.call() {
         "shape" => put_shape(&mut line, case)?,
         "test" => put_test(&mut line, case)?,
         _ => return Err(BadCase::Unfit),

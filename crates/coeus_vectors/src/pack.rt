@@ -12,14 +12,14 @@ use co_pack::{
 use co_text::Title;
 use std::alloc::Global;
 
-pub fn line(alloc: Global, call: &str, case: Case) -> Result<String, BadCase> {
-    let mut line = String::new(alloc);
-    match call {
+pub fn line(case: Case) -> Result<String, BadCase> {
+    let mut line = String::new(case.alloc);
+    match case.call() {
         "size" => put_size(&mut line, case)?,
-        "pack" => put_packing(alloc, &mut line, case)?,
-        "many" => put_many(alloc, &mut line, case)?,
-        "write" => put_record(alloc, &mut line, case)?,
-        "read" => put_read(alloc, &mut line, case)?,
+        "pack" => put_packing(&mut line, case)?,
+        "many" => put_many(&mut line, case)?,
+        "write" => put_record(&mut line, case)?,
+        "read" => put_read(&mut line, case)?,
         _ => return Err(BadCase::Unfit),
     }
     Ok(line)
@@ -45,15 +45,15 @@ fn are_within(lengths: &[u32], size: u32) -> bool
 }
 
 /// How many bins there are, and where each document stands.
-fn put_packing(alloc: Global, line: &mut String, case: Case) -> Result<(), BadCase> {
-    let lengths = case.numbers(alloc, "lengths")?;
-    put_places(alloc, line, &lengths, case.number("size"), true)
+fn put_packing(line: &mut String, case: Case) -> Result<(), BadCase> {
+    let lengths = case.numbers("lengths")?;
+    put_places(case.alloc, line, &lengths, case.number("size"), true)
 }
 
 /// How many bins so many documents of one length need.
-fn put_many(alloc: Global, line: &mut String, case: Case) -> Result<(), BadCase> {
-    let lengths = vec![in alloc; case.number("length"); case.number("documents") as usize]?;
-    put_places(alloc, line, &lengths, case.number("size"), false)
+fn put_many(line: &mut String, case: Case) -> Result<(), BadCase> {
+    let lengths = vec![in case.alloc; case.number("length"); case.number("documents") as usize]?;
+    put_places(case.alloc, line, &lengths, case.number("size"), false)
 }
 
 fn put_places(
@@ -77,23 +77,23 @@ fn put_places(
 }
 
 /// The bytes of a record, and what they are read as.
-fn put_record(alloc: Global, line: &mut String, case: Case) -> Result<(), BadCase> {
+fn put_record(line: &mut String, case: Case) -> Result<(), BadCase> {
     let place = Place {
         bin: case.number("bin"),
         offset: case.number("offset"),
         length: case.number("length"),
     };
-    let Some(title) = Title::from_text(String::from_str(alloc, case.text("title"))?) else {
+    let Some(title) = Title::from_text(String::from_str(case.alloc, case.text("title"))?) else {
         return Err(BadCase::Unfit);
     };
     let mut written = [1; RECORD_BYTES];
     write_record(case.number("document"), place, &title, &mut written);
-    put_bytes(alloc, line, &written)?;
-    put_reading(alloc, line, &written)
+    put_bytes(case.alloc, line, &written)?;
+    put_reading(case.alloc, line, &written)
 }
 
-fn put_read(alloc: Global, line: &mut String, case: Case) -> Result<(), BadCase> {
-    put_reading(alloc, line, &case.bytes(alloc, "bytes")?)
+fn put_read(line: &mut String, case: Case) -> Result<(), BadCase> {
+    put_reading(case.alloc, line, &case.bytes("bytes")?)
 }
 
 /// What the bytes of a record say, or the place of the first fault.

@@ -5,7 +5,7 @@ ghost use Rattle.co_math.specs.Logarithms.{log2_up};
 ghost use Rattle.co_bfv.specs.Ciphertexts.{ciphertext_degree};
 ghost use Rattle.co_switch.specs.Keys.{keys_degree};
 
-use crate::bfv::{drawn, encrypted, have_degree, put_all_opened};
+use crate::bfv::{Shown, drawn, encrypted, have_degree, put_all_opened};
 use crate::cases::{BadCase, Case, degree_of};
 use crate::gates::Watch;
 use crate::lines::{put, put_bytes, put_ciphers, put_each};
@@ -20,24 +20,19 @@ use rand_xoshiro::SplitMix64;
 use std::alloc::Global;
 use std::thread::Threads;
 
-pub fn line<R: Threads + Sync>(
-    rt: &R,
-    alloc: Global,
-    call: &str,
-    case: Case,
-) -> Result<String, BadCase> {
-    let mut line = String::new(alloc);
-    match call {
-        "query" => put_query(alloc, &mut line, case)?,
-        "retrieve" | "order" | "held" => put_retrieval(rt, alloc, &mut line, call, case)?,
-        "open" => put_opened_reply(alloc, &mut line, case)?,
+pub fn line<R: Threads + Sync>(rt: &R, case: Case) -> Result<String, BadCase> {
+    let mut line = String::new(case.alloc);
+    match case.call() {
+        "query" => put_query(&mut line, case)?,
+        "retrieve" | "order" | "held" => put_retrieval(rt, &mut line, case)?,
+        "open" => put_opened_reply(&mut line, case)?,
         _ => return Err(BadCase::Unfit),
     }
     Ok(line)
 }
 
 /// The message that asks for a row.
-fn message(alloc: Global, case: Case) -> Result<Poly, BadCase>
+fn message(case: Case) -> Result<Poly, BadCase>
     ensures { IfOk result (λ p. p.modulus ≡ Modulus.Plain) }
 {
     let degree = case.degree()?;
@@ -46,12 +41,12 @@ fn message(alloc: Global, case: Case) -> Result<Poly, BadCase>
     if row >= rows || rows > degree.get() {
         return Err(BadCase::Unfit);
     }
-    Ok(query_message(alloc, degree, rows, row)?)
+    Ok(query_message(case.alloc, degree, rows, row)?)
 }
 
 /// The coefficients other than 0, each behind its place.
-fn put_query(alloc: Global, line: &mut String, case: Case) -> Result<(), BadCase> {
-    let message = message(alloc, case)?;
+fn put_query(line: &mut String, case: Case) -> Result<(), BadCase> {
+    let message = message(case)?;
     for k in 0..message.degree() {
         if message.coeff(k) != 0 {
             put(line, k as u128)?;
@@ -61,24 +56,18 @@ fn put_query(alloc: Global, line: &mut String, case: Case) -> Result<(), BadCase
     Ok(())
 }
 
-fn put_retrieval<R: Threads + Sync>(
-    rt: &R,
-    alloc: Global,
-    line: &mut String,
-    call: &str,
-    case: Case,
-) -> Result<(), BadCase> {
+fn put_retrieval<R: Threads + Sync>(rt: &R, line: &mut String, case: Case) -> Result<(), BadCase> {
     let mut words = SplitMix64::seed_from_u64(case.number("stream") as u64);
-    let (secret, keys) = keyed(alloc, case, &mut words)?;
-    let query = query(alloc, case, &secret, &mut words)?;
-    put_found(rt, alloc, line, call, case, &secret, &keys, &query)?;
-    put_asked(alloc, line, call, query)
+    let (secret, keys) = keyed(case, &mut words)?;
+    let query = query(case, &secret, &mut words)?;
+    put_found(rt, line, case, &secret, &keys, &query)?;
+    put_asked(line, case, query)
 }
 
 /// The digest of a query, where that is known.
-fn put_asked(alloc: Global, line: &mut String, call: &str, query: Cipher) -> Result<(), BadCase> {
-    if call == "retrieve" {
-        put_ciphers(alloc, line, &[query])?;
+fn put_asked(line: &mut String, case: Case, query: Cipher) -> Result<(), BadCase> {
+    if case.call() == "retrieve" {
+        put_ciphers(case.alloc, line, &[query])?;
     }
     Ok(())
 }
@@ -86,9 +75,7 @@ fn put_asked(alloc: Global, line: &mut String, call: &str, query: Cipher) -> Res
 /// What comes of a query, and what the gate of the case was told.
 fn put_found<R: Threads + Sync>(
     rt: &R,
-    alloc: Global,
     line: &mut String,
-    call: &str,
     case: Case,
     secret: &Secret,
     keys: &KeySet,
@@ -96,17 +83,17 @@ fn put_found<R: Threads + Sync>(
 ) -> Result<(), BadCase>
     requires { keys_degree keys.now ≡ ciphertext_degree query.now }
 {
-    let gate = Watch::of(case);
-    if call == "retrieve" {
-        put_expansion(alloc, line, case, secret, keys, query)?;
+    if case.call() == "retrieve" {
+        put_expansion(line, case, secret, keys, query)?;
     }
-    put_reply(rt, alloc, line, call, case, secret, keys, query, &gate)?;
-    Ok(gate.put(line, call)?)
+    let gate = Watch::of(case);
+    let reply = replied(rt, case, keys, query, &gate)?;
+    put_reply(line, case, secret, &reply)?;
+    Ok(gate.put(line, case.call())?)
 }
 
 /// What the ciphertexts of the expanded query open to, and their digests.
 fn put_expansion(
-    alloc: Global,
     line: &mut String,
     case: Case,
     secret: &Secret,
@@ -115,45 +102,32 @@ fn put_expansion(
 ) -> Result<(), BadCase>
     requires { keys_degree keys.now ≡ ciphertext_degree query.now }
 {
-    let expanded = expanded(alloc, case, keys, query)?;
-    put_all_opened(alloc, line, secret, &expanded)?;
-    Ok(put_each(alloc, line, &expanded)?)
+    let expanded = expanded(case, keys, query)?;
+    put_all_opened(case.alloc, line, secret, &expanded, Shown::Coefficients)?;
+    Ok(put_each(case.alloc, line, &expanded)?)
 }
 
 /// What the reply opens to, behind its digest where that is known.
-fn put_reply<R: Threads + Sync>(
-    rt: &R,
-    alloc: Global,
+fn put_reply(
     line: &mut String,
-    call: &str,
     case: Case,
     secret: &Secret,
-    keys: &KeySet,
-    query: &Cipher,
-    gate: &Watch,
-) -> Result<(), BadCase>
-    requires { keys_degree keys.now ≡ ciphertext_degree query.now }
-{
-    let reply = replied(rt, alloc, case, keys, query, gate)?;
-    if call == "retrieve" {
-        put_ciphers(alloc, line, &reply)?;
+    reply: &[Cipher],
+) -> Result<(), BadCase> {
+    if case.call() == "retrieve" {
+        put_ciphers(case.alloc, line, reply)?;
     }
-    put_row(alloc, line, secret, &reply)
+    put_row(case.alloc, line, secret, reply)
 }
 
-fn query(
-    alloc: Global,
-    case: Case,
-    secret: &Secret,
-    words: &mut SplitMix64,
-) -> Result<Cipher, BadCase>
+fn query(case: Case, secret: &Secret, words: &mut SplitMix64) -> Result<Cipher, BadCase>
     ensures { IfOk result (λ c. ciphertext_degree c ≡ length secret.now) }
 {
-    let message = message(alloc, case)?;
+    let message = message(case)?;
     if message.degree() != secret.degree() {
         return Err(BadCase::Unfit);
     }
-    Ok(encrypt(alloc, secret, &message, words)?)
+    Ok(encrypt(case.alloc, secret, &message, words)?)
 }
 
 /// Whether there are expansion keys for so many rows.
@@ -164,29 +138,24 @@ fn suffices(keys: &KeySet, rows: u32) -> bool
     rows >= 1 && rows <= 4096 && levels(rows) as usize <= keys.expansions().len()
 }
 
-fn expanded(
-    alloc: Global,
-    case: Case,
-    keys: &KeySet,
-    query: &Cipher,
-) -> Result<Vec<Cipher>, BadCase>
+fn expanded(case: Case, keys: &KeySet, query: &Cipher) -> Result<Vec<Cipher>, BadCase>
     requires { keys_degree keys.now ≡ ciphertext_degree query.now }
 {
     let rows = case.number("rows");
     if !suffices(keys, rows) || rows as usize > query.degree() {
         return Err(BadCase::Unfit);
     }
-    Ok(expand(alloc, query, keys, rows, &mut Steps::begin())?)
+    Ok(expand(case.alloc, query, keys, rows, &mut Steps::begin())?)
 }
 
 /// The rows of a case.
-fn table(alloc: Global, case: Case, degree: Degree, rows: u32) -> Result<Rows, BadCase>
+fn table(case: Case, degree: Degree, rows: u32) -> Result<Rows, BadCase>
     requires { 1 ≤ rows }
     ensures degree { IfOk result (λ t. t.degree ≡ degree) }
     ensures rows { IfOk result (λ t. t.rows ≡ rows) }
 {
     let chunks = case.number("chunks");
-    let bytes = case.bytes(alloc, "bytes")?;
+    let bytes = case.bytes("bytes")?;
     let n = degree.get();
     if rows > n || chunks > 4096 {
         return Err(BadCase::Unfit);
@@ -194,12 +163,11 @@ fn table(alloc: Global, case: Case, degree: Degree, rows: u32) -> Result<Rows, B
     if bytes.len() != rows as usize * (chunks as usize * (2 * n as usize)) {
         return Err(BadCase::Unfit);
     }
-    Ok(Rows::new(alloc, degree, rows, chunks, &bytes)?)
+    Ok(Rows::new(case.alloc, degree, rows, chunks, &bytes)?)
 }
 
 fn replied<R: Threads + Sync>(
     rt: &R,
-    alloc: Global,
     case: Case,
     keys: &KeySet,
     query: &Cipher,
@@ -211,10 +179,12 @@ fn replied<R: Threads + Sync>(
     if !suffices(keys, rows) {
         return Err(BadCase::Unfit);
     }
-    let table = table(alloc, case, degree_of(query.degree())?, rows)?;
+    let table = table(case, degree_of(query.degree())?, rows)?;
     let mut steps = Steps::begin();
     let workers = case.number("workers").clamp(1, 64);
-    Ok(answer(rt, alloc, &table, keys, query, workers, gate, &mut steps)?)
+    Ok(answer(
+        rt, case.alloc, &table, keys, query, workers, gate, &mut steps,
+    )?)
 }
 
 /// The bytes that a reply opens to, or the first place that spells none.
@@ -234,10 +204,10 @@ fn put_row(
 }
 
 /// The bytes of a reply of two ciphertexts, of given messages.
-fn put_opened_reply(alloc: Global, line: &mut String, case: Case) -> Result<(), BadCase> {
+fn put_opened_reply(line: &mut String, case: Case) -> Result<(), BadCase> {
     let mut words = SplitMix64::seed_from_u64(case.number("stream") as u64);
-    let secret = drawn(alloc, case, &mut words)?;
-    let first = encrypted(alloc, case, "first", &secret, &mut words)?;
-    let second = encrypted(alloc, case, "second", &secret, &mut words)?;
-    put_row(alloc, line, &secret, &[first, second])
+    let secret = drawn(case, &mut words)?;
+    let first = encrypted(case, "first", &secret, &mut words)?;
+    let second = encrypted(case, "second", &secret, &mut words)?;
+    put_row(case.alloc, line, &secret, &[first, second])
 }

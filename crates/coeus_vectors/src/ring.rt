@@ -6,76 +6,75 @@ ghost use Rattle.co_ring.specs.Polynomials.{degree_of};
 use crate::cases::{BadCase, Case};
 use crate::lines::{put, put_poly};
 use co_ring::{Modulus, Poly, Spectrum, Table, forward, inverse};
-use std::alloc::Global;
 
-pub fn line(alloc: Global, call: &str, case: Case) -> Result<String, BadCase> {
+pub fn line(case: Case) -> Result<String, BadCase> {
     let modulus = case.modulus();
-    let mut line = String::new(alloc);
-    match call {
+    let mut line = String::new(case.alloc);
+    match case.call() {
         "value" => put(&mut line, modulus.value() as u128)?,
         "root" => put(&mut line, modulus.root(case.degree()?) as u128)?,
-        "mul" => put_poly(&mut line, &product(alloc, modulus, case)?)?,
-        "values" => put_values(alloc, &mut line, modulus, case)?,
-        "add" => put_poly(&mut line, &sum(alloc, modulus, case, false)?)?,
-        "sub" => put_poly(&mut line, &sum(alloc, modulus, case, true)?)?,
-        "scale" => put_poly(&mut line, &scaled(alloc, modulus, case)?)?,
-        "substitute" => put_poly(&mut line, &substituted(alloc, modulus, case)?)?,
-        "shift" => put_poly(&mut line, &shifted(alloc, modulus, case)?)?,
+        "mul" => put_poly(&mut line, &product(modulus, case)?)?,
+        "values" => put_values(&mut line, modulus, case)?,
+        "add" => put_poly(&mut line, &sum(modulus, case, false)?)?,
+        "sub" => put_poly(&mut line, &sum(modulus, case, true)?)?,
+        "scale" => put_poly(&mut line, &scaled(modulus, case)?)?,
+        "substitute" => put_poly(&mut line, &substituted(modulus, case)?)?,
+        "shift" => put_poly(&mut line, &shifted(modulus, case)?)?,
         _ => return Err(BadCase::Unfit),
     }
     Ok(line)
 }
 
 /// Two polynomials of one degree.
-fn both(alloc: Global, modulus: Modulus, case: Case) -> Result<(Poly, Poly), BadCase>
+fn both(modulus: Modulus, case: Case) -> Result<(Poly, Poly), BadCase>
     ensures first_modulus { IfOk result (λ p. p.0.modulus ≡ modulus) }
     ensures second_modulus { IfOk result (λ p. p.1.modulus ≡ modulus) }
     ensures one_degree { IfOk result (λ p. degree_of p.1 ≡ degree_of p.0) }
 {
-    let a = case.poly(alloc, modulus, "a")?;
-    let b = case.poly(alloc, modulus, "b")?;
+    let a = case.poly(modulus, "a")?;
+    let b = case.poly(modulus, "b")?;
     if a.degree() != b.degree() {
         return Err(BadCase::Unfit);
     }
     Ok((a, b))
 }
 
-fn product(alloc: Global, modulus: Modulus, case: Case) -> Result<Poly, BadCase> {
-    let (a, b) = both(alloc, modulus, case)?;
-    Ok(a.mul(alloc, &b)?)
+fn product(modulus: Modulus, case: Case) -> Result<Poly, BadCase> {
+    let (a, b) = both(modulus, case)?;
+    Ok(a.mul(case.alloc, &b)?)
 }
 
-fn scaled(alloc: Global, modulus: Modulus, case: Case) -> Result<Poly, BadCase> {
-    let mut a = case.poly(alloc, modulus, "a")?;
+fn scaled(modulus: Modulus, case: Case) -> Result<Poly, BadCase> {
+    let mut a = case.poly(modulus, "a")?;
     a.scale(case.text("factor").parse().unwrap_or(0));
     Ok(a)
 }
 
-fn substituted(alloc: Global, modulus: Modulus, case: Case) -> Result<Poly, BadCase> {
-    let a = case.poly(alloc, modulus, "a")?;
+fn substituted(modulus: Modulus, case: Case) -> Result<Poly, BadCase> {
+    let a = case.poly(modulus, "a")?;
     let g = case.number("g");
     if g % 2 == 0 || g as usize / 2 >= a.degree() {
         return Err(BadCase::Unfit);
     }
-    let mut into = Poly::zero(alloc, modulus, a.shape())?;
+    let mut into = Poly::zero(case.alloc, modulus, a.shape())?;
     a.substitute(g, &mut into);
     Ok(into)
 }
 
-fn shifted(alloc: Global, modulus: Modulus, case: Case) -> Result<Poly, BadCase> {
-    let a = case.poly(alloc, modulus, "a")?;
+fn shifted(modulus: Modulus, case: Case) -> Result<Poly, BadCase> {
+    let a = case.poly(modulus, "a")?;
     let exponent = case.number("exponent");
     if exponent as usize / 2 >= a.degree() {
         return Err(BadCase::Unfit);
     }
-    let mut into = Poly::zero(alloc, modulus, a.shape())?;
+    let mut into = Poly::zero(case.alloc, modulus, a.shape())?;
     a.monomial_mul(exponent, &mut into);
     Ok(into)
 }
 
 /// The sum, or the difference.
-fn sum(alloc: Global, modulus: Modulus, case: Case, negated: bool) -> Result<Poly, BadCase> {
-    let (mut a, b) = both(alloc, modulus, case)?;
+fn sum(modulus: Modulus, case: Case, negated: bool) -> Result<Poly, BadCase> {
+    let (mut a, b) = both(modulus, case)?;
     if negated {
         a.sub_in(&b);
     } else {
@@ -85,20 +84,15 @@ fn sum(alloc: Global, modulus: Modulus, case: Case, negated: bool) -> Result<Pol
 }
 
 /// The values of a polynomial, and the polynomial back from them.
-fn put_values(
-    alloc: Global,
-    line: &mut String,
-    modulus: Modulus,
-    case: Case,
-) -> Result<(), BadCase> {
-    let a = case.poly(alloc, modulus, "a")?;
-    let table = Table::new(alloc, modulus, a.shape())?;
-    let mut values = Spectrum::zero(alloc, modulus, a.shape())?;
+fn put_values(line: &mut String, modulus: Modulus, case: Case) -> Result<(), BadCase> {
+    let a = case.poly(modulus, "a")?;
+    let table = Table::new(case.alloc, modulus, a.shape())?;
+    let mut values = Spectrum::zero(case.alloc, modulus, a.shape())?;
     forward(&table, &a, &mut values);
     for k in 0..values.degree() {
         put(line, values.value(k) as u128)?;
     }
-    let mut back = Poly::zero(alloc, modulus, a.shape())?;
+    let mut back = Poly::zero(case.alloc, modulus, a.shape())?;
     inverse(&table, &values, &mut back);
     put_poly(line, &back)?;
     Ok(())

@@ -4,7 +4,7 @@ ghost use Rattle.std.specs.Prelude.{◌≡◌};
 ghost use Rattle.co_bfv.specs.Ciphertexts.{ciphertext_degree};
 ghost use Rattle.co_switch.specs.Keys.{keys_degree};
 
-use crate::bfv::{encrypted_slots, put_all_slots};
+use crate::bfv::{Shown, encrypted_slots, put_all_opened};
 use crate::cases::{BadCase, Case};
 use crate::lines::{put, put_each};
 use crate::switch::keyed;
@@ -15,18 +15,18 @@ use rand_core::SeedableRng;
 use rand_xoshiro::SplitMix64;
 use std::alloc::{AllocError, Global};
 
-pub fn line(alloc: Global, call: &str, case: Case) -> Result<String, BadCase> {
-    let mut line = String::new(alloc);
-    match call {
-        "parents" => put_parents(alloc, &mut line, case)?,
-        "rotations" => put_rotations(alloc, &mut line, case)?,
+pub fn line(case: Case) -> Result<String, BadCase> {
+    let mut line = String::new(case.alloc);
+    match case.call() {
+        "parents" => put_parents(&mut line, case)?,
+        "rotations" => put_rotations(&mut line, case)?,
         _ => return Err(BadCase::Unfit),
     }
     Ok(line)
 }
 
-fn put_parents(alloc: Global, line: &mut String, case: Case) -> Result<(), BadCase> {
-    for number in case.numbers(alloc, "of")?.iter() {
+fn put_parents(line: &mut String, case: Case) -> Result<(), BadCase> {
+    for number in case.numbers("of")?.iter() {
         if *number > 0 {
             put(line, parent(*number) as u128)?;
         }
@@ -82,13 +82,13 @@ fn walk_all<V: Visitor>(
 }
 
 /// The rotations of the encryption of some slots: the slots that each opens to, then the digests.
-fn put_rotations(alloc: Global, line: &mut String, case: Case) -> Result<(), BadCase> {
+fn put_rotations(line: &mut String, case: Case) -> Result<(), BadCase> {
     let mut words = SplitMix64::seed_from_u64(case.number("stream") as u64);
-    let (secret, keys) = keyed(alloc, case, &mut words)?;
-    let query = encrypted_slots(alloc, case, "slots", &secret, &mut words)?;
-    let rotations = rotations(alloc, &query, &keys)?;
-    put_all_slots(alloc, line, &secret, &rotations)?;
-    Ok(put_each(alloc, line, &rotations)?)
+    let (secret, keys) = keyed(case, &mut words)?;
+    let query = encrypted_slots(case, "slots", &secret, &mut words)?;
+    let rotations = rotations(case.alloc, &query, &keys)?;
+    put_all_opened(case.alloc, line, &secret, &rotations, Shown::Slots)?;
+    Ok(put_each(case.alloc, line, &rotations)?)
 }
 
 fn rotations(alloc: Global, query: &Cipher, keys: &KeySet) -> Result<Vec<Cipher>, AllocError>

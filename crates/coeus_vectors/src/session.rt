@@ -11,71 +11,59 @@ use co_link::{Bytes, Dial, Reply, Request, Target};
 use co_server::{Loaded, LocalLink, Runs};
 use std::alloc::{AllocError, Global};
 
-pub fn line<R: Runs>(rt: &R, alloc: Global, call: &str, case: Case) -> Result<String, BadCase>
+pub fn line<R: Runs>(rt: &R, case: Case) -> Result<String, BadCase>
     requires { R.is_shared }
 {
-    let mut line = String::new(alloc);
-    match call {
-        "lengths" => put_library_lengths(alloc, &mut line, case)?,
-        "replies" | "statuses" => put_session(rt, alloc, &mut line, call, case)?,
+    let mut line = String::new(case.alloc);
+    match case.call() {
+        "lengths" => put_library_lengths(&mut line, case)?,
+        "replies" | "statuses" => put_session(rt, &mut line, case)?,
         _ => return Err(BadCase::Unfit),
     }
     Ok(line)
 }
 
 /// The lengths of the requests to a library, and of the replies.
-fn put_library_lengths(alloc: Global, line: &mut String, case: Case) -> Result<(), BadCase> {
-    let library = library(alloc, case)?;
+fn put_library_lengths(line: &mut String, case: Case) -> Result<(), BadCase> {
+    let library = library(case)?;
     let tested = passed(library.shape())?;
     Ok(put_lengths(line, &tested)?)
 }
 
 /// The library of a case, made ready for replies.
-fn loaded(alloc: Global, case: Case) -> Result<Loaded, BadCase> {
-    let library = library(alloc, case)?;
+fn loaded(case: Case) -> Result<Loaded, BadCase> {
+    let library = library(case)?;
     let tested = passed(library.shape())?;
-    Ok(Loaded::new(alloc, library, tested)?)
+    Ok(Loaded::new(case.alloc, library, tested)?)
 }
 
 /// The replies of a new session, and how many exchanges its link then tells.
-fn put_session<R: Runs>(
-    rt: &R,
-    alloc: Global,
-    line: &mut String,
-    call: &str,
-    case: Case,
-) -> Result<(), BadCase>
+fn put_session<R: Runs>(rt: &R, line: &mut String, case: Case) -> Result<(), BadCase>
     requires { R.is_shared }
 {
-    let loaded = loaded(alloc, case)?;
-    let mut link = LocalLink::new(rt, alloc, &loaded, 2);
-    put_replies(alloc, line, call, case, &mut link)?;
+    let loaded = loaded(case)?;
+    let mut link = LocalLink::new(rt, case.alloc, &loaded, 2);
+    put_replies(line, case, &mut link)?;
     put(line, link.exchanges().len() as u128)?;
     Ok(())
 }
 
 /// What comes of each step of a case.
-fn put_replies<K: Dial>(
-    alloc: Global,
-    line: &mut String,
-    call: &str,
-    case: Case,
-    link: &mut K,
-) -> Result<(), BadCase>
+fn put_replies<K: Dial>(line: &mut String, case: Case, link: &mut K) -> Result<(), BadCase>
     requires { K.is_ready link.old ≡ true }
 {
-    for step in case.steps()? {
-        put_step(alloc, line, call, Case::new(step), link)?;
+    let whole = case.call() == "replies";
+    for fields in case.steps()? {
+        put_step(line, Case::new(case.alloc, fields), whole, link)?;
     }
     Ok(())
 }
 
 /// Dials, or asks.
 fn put_step<K: Dial>(
-    alloc: Global,
     line: &mut String,
-    call: &str,
     step: Case,
+    whole: bool,
     link: &mut K,
 ) -> Result<(), BadCase>
     requires { K.is_ready link.old ≡ true }
@@ -84,9 +72,8 @@ fn put_step<K: Dial>(
     if step.text("target") == "dial" {
         return dialled(link);
     }
-    let reply = asked(alloc, link, step)?;
-    put_reply(alloc, line, call, &reply)?;
-    Ok(())
+    let reply = asked(link, step)?;
+    Ok(put_reply(step.alloc, line, whole, &reply)?)
 }
 
 fn dialled<K: Dial>(link: &mut K) -> Result<(), BadCase>
@@ -99,11 +86,11 @@ fn dialled<K: Dial>(link: &mut K) -> Result<(), BadCase>
 }
 
 /// The reply to a request.
-fn asked<K: Dial>(alloc: Global, link: &mut K, step: Case) -> Result<Reply, BadCase>
+fn asked<K: Dial>(link: &mut K, step: Case) -> Result<Reply, BadCase>
     requires { K.is_ready link.old ≡ true }
     ensures { OnOk result (K.is_ready link.new ≡ true) }
 {
-    let request = request(alloc, step)?;
+    let request = request(step)?;
     match link.exchange(request, u64::MAX) {
         Ok(reply) => Ok(reply),
         Err(_) => return Err(BadCase::OutOfMemory),
@@ -111,7 +98,7 @@ fn asked<K: Dial>(alloc: Global, link: &mut K, step: Case) -> Result<Reply, BadC
 }
 
 /// The request of a step, whose body is zeros with some bytes put in.
-fn request(alloc: Global, step: Case) -> Result<Request, BadCase> {
+fn request(step: Case) -> Result<Request, BadCase> {
     let target = match step.text("target") {
         "public" => Target::Public,
         "keys" => Target::Keys,
@@ -120,7 +107,7 @@ fn request(alloc: Global, step: Case) -> Result<Request, BadCase> {
         "document" => Target::Document,
         _ => return Err(BadCase::Unfit),
     };
-    let body = Bytes::from_vec(put_in(alloc, step)?);
+    let body = Bytes::from_vec(put_in(step)?);
     Ok(Request { target, body })
 }
 
@@ -128,12 +115,12 @@ fn request(alloc: Global, step: Case) -> Result<Request, BadCase> {
 fn put_reply(
     alloc: Global,
     line: &mut String,
-    call: &str,
+    whole: bool,
     reply: &Reply,
 ) -> Result<(), AllocError> {
     put(line, reply.status as u128)?;
     put(line, reply.body.len() as u128)?;
-    if call == "replies" {
+    if whole {
         put_digest(alloc, line, reply.body.as_slice())?;
     }
     Ok(())

@@ -9,7 +9,6 @@ use crate::{bfv, switch};
 use rand_core::utils::NextWord;
 use rand_core::{Rng, SeedableRng, utils};
 use rand_xoshiro::SplitMix64;
-use std::alloc::Global;
 use std::marker::Model;
 
 /// A number that tells how far a generator has gone.
@@ -94,28 +93,22 @@ pub fn skip<R: Rng>(rng: &mut R, words: u32) {
 }
 
 /// The line of a case whose words come from its stream.
-pub fn line(alloc: Global, layer: &str, call: &str, case: Case) -> Result<String, BadCase> {
+pub fn line(layer: &str, case: Case) -> Result<String, BadCase> {
     match case.text("stream") {
         "given" => {
-            let words = case.words(alloc, "words")?;
-            line_of(alloc, layer, call, case, &mut Given::new(&words))
+            let words = case.words("words")?;
+            line_of(layer, case, &mut Given::new(&words))
         }
         seed => {
             let mut words = SplitMix64::seed_from_u64(seed.parse().unwrap_or(0));
-            line_of(alloc, layer, call, case, &mut words)
+            line_of(layer, case, &mut words)
         }
     }
 }
 
-fn line_of<R: Stand>(
-    alloc: Global,
-    layer: &str,
-    call: &str,
-    case: Case,
-    rng: &mut R,
-) -> Result<String, BadCase> {
+fn line_of<R: Stand>(layer: &str, case: Case, rng: &mut R) -> Result<String, BadCase> {
     match layer {
-        "bfv" => bfv::line(alloc, call, case, rng),
-        _ => switch::line(alloc, call, case, rng),
+        "bfv" => bfv::line(case, rng),
+        _ => switch::line(case, rng),
     }
 }

@@ -19,57 +19,36 @@ use co_wire::write_keys;
 use rand_core::Rng;
 use std::alloc::{AllocError, Global};
 
-pub fn line<R: Stand>(
-    alloc: Global,
-    call: &str,
-    case: Case,
-    rng: &mut R,
-) -> Result<String, BadCase> {
-    let mut line = String::new(alloc);
-    put_call(alloc, &mut line, call, case, rng)?;
+pub fn line<R: Stand>(case: Case, rng: &mut R) -> Result<String, BadCase> {
+    let mut line = String::new(case.alloc);
+    put_call(&mut line, case, rng)?;
     put(&mut line, rng.stand() as u128)?;
     Ok(line)
 }
 
-fn put_call<R: Rng>(
-    alloc: Global,
-    line: &mut String,
-    call: &str,
-    case: Case,
-    rng: &mut R,
-) -> Result<(), BadCase> {
-    match call {
-        "key" => put_key(alloc, line, case, rng),
-        "switch" => put_switch(alloc, line, case, rng),
-        "keys" | "elements" => put_keys(alloc, line, call, case, rng),
+fn put_call<R: Rng>(line: &mut String, case: Case, rng: &mut R) -> Result<(), BadCase> {
+    match case.call() {
+        "key" => put_key(line, case, rng),
+        "switch" => put_switch(line, case, rng),
+        "keys" | "elements" => put_keys(line, case, rng),
         "all_elements" => put_elements(line, case),
         _ => Err(BadCase::Unfit),
     }
 }
 
 /// The key of an element, for a secret.
-fn key<R: Rng>(
-    alloc: Global,
-    case: Case,
-    secret: &Secret,
-    rng: &mut R,
-) -> Result<GaloisKey, BadCase> {
+fn key<R: Rng>(case: Case, secret: &Secret, rng: &mut R) -> Result<GaloisKey, BadCase> {
     let element = case.number("element");
     if element % 2 == 0 || element as usize / 2 >= secret.degree() {
         return Err(BadCase::Unfit);
     }
-    Ok(make_key(alloc, secret, element, rng)?)
+    Ok(make_key(case.alloc, secret, element, rng)?)
 }
 
-fn put_key<R: Rng>(
-    alloc: Global,
-    line: &mut String,
-    case: Case,
-    rng: &mut R,
-) -> Result<(), BadCase> {
-    let secret = drawn(alloc, case, rng)?;
-    let key = key(alloc, case, &secret, rng)?;
-    Ok(put_pairs(alloc, line, &key)?)
+fn put_key<R: Rng>(line: &mut String, case: Case, rng: &mut R) -> Result<(), BadCase> {
+    let secret = drawn(case, rng)?;
+    let key = key(case, &secret, rng)?;
+    Ok(put_pairs(case.alloc, line, &key)?)
 }
 
 /// The first pair of a key, and the digest of the others.
@@ -98,17 +77,12 @@ fn spell_pair(bytes: &mut Vec<u8>, pair: &Pair) -> Result<(), AllocError> {
 }
 
 /// The switch of an encryption, and what it opens to.
-fn put_switch<R: Rng>(
-    alloc: Global,
-    line: &mut String,
-    case: Case,
-    rng: &mut R,
-) -> Result<(), BadCase> {
-    let secret = drawn(alloc, case, rng)?;
-    let cipher = encrypted(alloc, case, "message", &secret, rng)?;
-    let key = key(alloc, case, &secret, rng)?;
-    let switched = switched(alloc, &cipher, &key)?;
-    put_cipher(alloc, line, &secret, &switched)
+fn put_switch<R: Rng>(line: &mut String, case: Case, rng: &mut R) -> Result<(), BadCase> {
+    let secret = drawn(case, rng)?;
+    let cipher = encrypted(case, "message", &secret, rng)?;
+    let key = key(case, &secret, rng)?;
+    let switched = switched(case.alloc, &cipher, &key)?;
+    put_cipher(case.alloc, line, &secret, &switched)
 }
 
 fn switched(alloc: Global, cipher: &Cipher, key: &GaloisKey) -> Result<Cipher, BadCase> {
@@ -134,33 +108,27 @@ fn put_elements(line: &mut String, case: Case) -> Result<(), BadCase> {
 }
 
 /// A secret, and keys for it and the shape of a case.
-pub fn keyed<R: Rng>(alloc: Global, case: Case, rng: &mut R) -> Result<(Secret, KeySet), BadCase>
+pub fn keyed<R: Rng>(case: Case, rng: &mut R) -> Result<(Secret, KeySet), BadCase>
     ensures { IfOk result (λ p. keys_degree p.1 ≡ length p.0) }
 {
-    let secret = sample_secret(alloc, case.degree()?, rng)?;
-    let keys = keys(alloc, case, &secret, rng)?;
+    let secret = sample_secret(case.alloc, case.degree()?, rng)?;
+    let keys = keys(case, &secret, rng)?;
     Ok((secret, keys))
 }
 
-fn keys<R: Rng>(alloc: Global, case: Case, secret: &Secret, rng: &mut R) -> Result<KeySet, BadCase>
+fn keys<R: Rng>(case: Case, secret: &Secret, rng: &mut R) -> Result<KeySet, BadCase>
     ensures { IfOk result (λ keys. keys_degree keys ≡ length secret.now) }
 {
     let tested = tested(case)?;
     if secret.degree() != tested.shape().degree() as usize {
         return Err(BadCase::Unfit);
     }
-    Ok(make_keys(alloc, &tested, secret, rng)?)
+    Ok(make_keys(case.alloc, &tested, secret, rng)?)
 }
 
-fn put_keys<R: Rng>(
-    alloc: Global,
-    line: &mut String,
-    call: &str,
-    case: Case,
-    rng: &mut R,
-) -> Result<(), BadCase> {
-    let (_, keys) = keyed(alloc, case, rng)?;
-    Ok(put_key_set(alloc, line, call == "keys", &keys)?)
+fn put_keys<R: Rng>(line: &mut String, case: Case, rng: &mut R) -> Result<(), BadCase> {
+    let (_, keys) = keyed(case, rng)?;
+    Ok(put_key_set(case.alloc, line, case.call() == "keys", &keys)?)
 }
 
 /// The elements of a set of keys, and the digest of its bytes where it is known.

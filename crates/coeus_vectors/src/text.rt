@@ -3,14 +3,14 @@
 use crate::cases::{BadCase, Case};
 use crate::lines::{put, put_text};
 use co_text::{QueryFault, Terms, all_terms, distinct_terms, query_terms};
-use std::alloc::{AllocError, Global};
+use std::alloc::AllocError;
 
-pub fn line(alloc: Global, call: &str, case: Case) -> Result<String, BadCase> {
-    let mut line = String::new(alloc);
-    match call {
-        "terms" => put_terms(&mut line, &all_terms(alloc, case.text("text"))?)?,
-        "distinct" => put_distinct(alloc, &mut line, case)?,
-        "query" => put_query(alloc, &mut line, case)?,
+pub fn line(case: Case) -> Result<String, BadCase> {
+    let mut line = String::new(case.alloc);
+    match case.call() {
+        "terms" => put_terms(&mut line, &all_terms(case.alloc, case.text("text"))?)?,
+        "distinct" => put_distinct(&mut line, case)?,
+        "query" => put_query(&mut line, case)?,
         _ => return Err(BadCase::Unfit),
     }
     Ok(line)
@@ -23,14 +23,14 @@ pub fn put_terms(line: &mut String, terms: &Terms) -> Result<(), AllocError> {
     Ok(())
 }
 
-fn put_distinct(alloc: Global, line: &mut String, case: Case) -> Result<(), AllocError> {
-    let terms = all_terms(alloc, case.text("text"))?;
-    put_terms(line, &distinct_terms(alloc, &terms)?)
+fn put_distinct(line: &mut String, case: Case) -> Result<(), AllocError> {
+    let terms = all_terms(case.alloc, case.text("text"))?;
+    put_terms(line, &distinct_terms(case.alloc, &terms)?)
 }
 
 /// The distinct terms, or how many they are, where they are too many.
-fn put_query(alloc: Global, line: &mut String, case: Case) -> Result<(), BadCase> {
-    match query_terms(alloc, case.text("text")) {
+fn put_query(line: &mut String, case: Case) -> Result<(), BadCase> {
+    match query_terms(case.alloc, case.text("text")) {
         Ok(terms) => put_terms(line, &terms)?,
         Err(QueryFault::TooManyKeywords { found }) => {
             put_text(line, "too many:")?;

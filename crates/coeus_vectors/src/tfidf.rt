@@ -5,13 +5,13 @@ use crate::lines::{put, put_text};
 use crate::text::put_terms;
 use co_corpus::{Corpus, read_corpus};
 use co_tfidf::{build_index, quarter_bits};
-use std::alloc::{AllocError, Global};
+use std::alloc::AllocError;
 
-pub fn line(alloc: Global, call: &str, case: Case) -> Result<String, BadCase> {
-    let mut line = String::new(alloc);
-    match call {
+pub fn line(case: Case) -> Result<String, BadCase> {
+    let mut line = String::new(case.alloc);
+    match case.call() {
         "quarter_bits" => put_quarter_bits(&mut line, case)?,
-        "index" => put_index(alloc, &mut line, case)?,
+        "index" => put_index(&mut line, case)?,
         _ => return Err(BadCase::Unfit),
     }
     Ok(line)
@@ -28,16 +28,16 @@ fn put_quarter_bits(line: &mut String, case: Case) -> Result<(), BadCase> {
 }
 
 /// The corpus whose lines a field holds.
-pub fn corpus(alloc: Global, case: Case) -> Result<Corpus, BadCase> {
-    match read_corpus(alloc, case.text("corpus").as_bytes()) {
+pub fn corpus(case: Case) -> Result<Corpus, BadCase> {
+    match read_corpus(case.alloc, case.text("corpus").as_bytes()) {
         Ok(corpus) => Ok(corpus),
         Err(_) => return Err(BadCase::Unfit),
     }
 }
 
 /// The vocabulary, and then its weights.
-fn put_index(alloc: Global, line: &mut String, case: Case) -> Result<(), BadCase> {
-    let index = build_index(alloc, &corpus(alloc, case)?, case.number("terms"))?;
+fn put_index(line: &mut String, case: Case) -> Result<(), BadCase> {
+    let index = build_index(case.alloc, &corpus(case)?, case.number("terms"))?;
     put_terms(line, &index.terms)?;
     put_text(line, "weights")?;
     put_weights(line, index.weights.as_slice())?;

@@ -9,14 +9,14 @@ use co_noise::Tested;
 use co_wire::{
     WireFault, read_ciphers, record_chunks, reply_length, request_length, write_ciphers,
 };
-use std::alloc::{AllocError, Global};
+use std::alloc::AllocError;
 
-pub fn line(alloc: Global, call: &str, case: Case) -> Result<String, BadCase> {
-    let mut line = String::new(alloc);
-    match call {
+pub fn line(case: Case) -> Result<String, BadCase> {
+    let mut line = String::new(case.alloc);
+    match case.call() {
         "lengths" => put_lengths(&mut line, &tested(case)?)?,
-        "write" => put_written(alloc, &mut line, case)?,
-        "read" => put_reading(alloc, &mut line, case)?,
+        "write" => put_written(&mut line, case)?,
+        "read" => put_reading(&mut line, case)?,
         _ => return Err(BadCase::Unfit),
     }
     Ok(line)
@@ -38,28 +38,28 @@ pub fn put_lengths(line: &mut String, tested: &Tested) -> Result<(), AllocError>
 }
 
 /// The bytes of the ciphertext whose parts a case lists, and whether they are read and written again.
-fn put_written(alloc: Global, line: &mut String, case: Case) -> Result<(), BadCase> {
-    let cipher = given(alloc, case)?;
-    let bytes = write_ciphers(alloc, &[cipher])?;
-    put_bytes(alloc, line, bytes.as_slice())?;
-    if written_again(alloc, case, bytes.as_slice())?.as_slice() == bytes.as_slice() {
+fn put_written(line: &mut String, case: Case) -> Result<(), BadCase> {
+    let cipher = given(case)?;
+    let bytes = write_ciphers(case.alloc, &[cipher])?;
+    put_bytes(case.alloc, line, bytes.as_slice())?;
+    if written_again(case, bytes.as_slice())?.as_slice() == bytes.as_slice() {
         put_text(line, "again")?;
     }
     Ok(())
 }
 
 /// What is written of the ciphertext that bytes are read as.
-fn written_again(alloc: Global, case: Case, bytes: &[u8]) -> Result<Bytes, BadCase> {
-    match read_ciphers(alloc, case.degree()?, 1, bytes) {
-        Ok(ciphers) => Ok(write_ciphers(alloc, &ciphers)?),
+fn written_again(case: Case, bytes: &[u8]) -> Result<Bytes, BadCase> {
+    match read_ciphers(case.alloc, case.degree()?, 1, bytes) {
+        Ok(ciphers) => Ok(write_ciphers(case.alloc, &ciphers)?),
         Err(_) => return Err(BadCase::Unfit),
     }
 }
 
 /// Whether bytes are so many ciphertexts, or why they are not.
-fn put_reading(alloc: Global, line: &mut String, case: Case) -> Result<(), BadCase> {
-    let bytes = put_in(alloc, case)?;
-    match read_ciphers(alloc, case.degree()?, case.number("count"), &bytes) {
+fn put_reading(line: &mut String, case: Case) -> Result<(), BadCase> {
+    let bytes = put_in(case)?;
+    match read_ciphers(case.alloc, case.degree()?, case.number("count"), &bytes) {
         Ok(_) => Ok(put_text(line, "good")?),
         Err(fault) => put_fault(line, fault),
     }
@@ -76,13 +76,13 @@ fn put_fault(line: &mut String, fault: WireFault) -> Result<(), BadCase> {
 
 /// Zeros, of the length that a case says, with the bytes put in that it lists: each as a place, a
 /// stroke and the bytes in hexadecimal.
-pub fn put_in(alloc: Global, case: Case) -> Result<Vec<u8>, BadCase> {
-    let mut bytes = vec![in alloc; 0; case.number("length") as usize]?;
+pub fn put_in(case: Case) -> Result<Vec<u8>, BadCase> {
+    let mut bytes = vec![in case.alloc; 0; case.number("length") as usize]?;
     for change in case.text("put").split_ascii_whitespace() {
         let Some((at, what)) = change.split_once('/') else {
             return Err(BadCase::Unfit);
         };
-        let Ok(what) = hex::decode(alloc, what) else {
+        let Ok(what) = hex::decode(case.alloc, what) else {
             return Err(BadCase::Unfit);
         };
         overwrite(&mut bytes, at.parse().unwrap_or(0), &what);
