@@ -4,7 +4,7 @@ ghost use Rattle.std.specs.Prelude.{◌≡◌, length, All, IfOk, IsTrue};
 ghost use Rattle.co_bfv.specs.Ciphertexts.{ciphertext_degree};
 
 use crate::cases::{BadCase, Case, degree_of};
-use crate::lines::{put, put_ciphers, put_pair, put_poly, put_words};
+use crate::lines::{put, put_ciphers, put_each, put_pair, put_poly, put_words};
 use crate::streams::{Stand, skip};
 use co_bfv::{Cipher, Secret, decrypt, encrypt, sample_error, sample_secret, sample_uniform};
 use co_ring::{Modulus, Poly};
@@ -142,6 +142,18 @@ fn put_message(
     }
 }
 
+/// What each ciphertext opens to, and then their digests.
+pub fn put_each_opened(
+    alloc: Global,
+    line: &mut String,
+    secret: &Secret,
+    ciphers: &[Cipher],
+    shown: Shown,
+) -> Result<(), BadCase> {
+    put_all_opened(alloc, line, secret, ciphers, shown)?;
+    Ok(put_each(alloc, line, ciphers)?)
+}
+
 /// What each ciphertext opens to.
 pub fn put_all_opened(
     alloc: Global,
@@ -201,14 +213,18 @@ fn put_combined<R: Rng>(
     secret: &Secret,
     rng: &mut R,
 ) -> Result<(), BadCase> {
-    let one = encrypted(case, "one", secret, rng)?;
-    let other = encrypted(case, "other", secret, rng)?;
-    let combined = combined(case, one, &other)?;
+    let combined = combined(case, secret, rng)?;
     put_opened(case.alloc, line, secret, &combined)?;
-    Ok(put_ciphers(case.alloc, line, &[combined])?)
+    put_cipher_digest(case.alloc, line, &combined)
 }
 
-fn combined(case: Case, mut one: Cipher, other: &Cipher) -> Result<Cipher, BadCase> {
+fn combined<R: Rng>(case: Case, secret: &Secret, rng: &mut R) -> Result<Cipher, BadCase> {
+    let one = encrypted(case, "one", secret, rng)?;
+    let other = encrypted(case, "other", secret, rng)?;
+    combination(case, one, &other)
+}
+
+fn combination(case: Case, mut one: Cipher, other: &Cipher) -> Result<Cipher, BadCase> {
     if one.degree() != other.degree() {
         return Err(BadCase::Unfit);
     }
@@ -218,6 +234,12 @@ fn combined(case: Case, mut one: Cipher, other: &Cipher) -> Result<Cipher, BadCa
         _ => return plain_product(case, &one),
     }
     Ok(one)
+}
+
+/// The digest of the bytes of one ciphertext.
+pub fn put_cipher_digest(alloc: Global, line: &mut String, cipher: &Cipher) -> Result<(), BadCase> {
+    let copy = cipher.copy(alloc)?;
+    Ok(put_ciphers(alloc, line, &[copy])?)
 }
 
 fn plain_product(case: Case, cipher: &Cipher) -> Result<Cipher, BadCase> {

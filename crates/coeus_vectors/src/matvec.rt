@@ -167,27 +167,40 @@ fn replies<R: Threads + Sync>(
 fn put_scores<R: Threads + Sync>(rt: &R, line: &mut String, case: Case) -> Result<(), BadCase> {
     let mut words = SplitMix64::seed_from_u64(case.number("stream") as u64);
     let (secret, keys) = keyed(case, &mut words)?;
-    let weights = weights(case, &secret)?;
-    put_scores_by(rt, line, case, &weights, &secret, &keys, &mut words)
+    put_scores_by(rt, line, case, &secret, &keys, &mut words)
+}
+
+fn put_scores_by<R: Threads + Sync>(
+    rt: &R,
+    line: &mut String,
+    case: Case,
+    secret: &Secret,
+    keys: &KeySet,
+    words: &mut SplitMix64,
+) -> Result<(), BadCase>
+    requires { keys_degree keys.now ≡ length secret.now }
+{
+    let weights = weights(case, secret)?;
+    let query = queries(case, weights.keyword_blocks(), secret, words)?;
+    put_replies(rt, line, case, &weights, secret, keys, &query)
 }
 
 /// The scores of a case, and what its gate was told.
-fn put_scores_by<R: Threads + Sync>(
+fn put_replies<R: Threads + Sync>(
     rt: &R,
     line: &mut String,
     case: Case,
     weights: &Weights,
     secret: &Secret,
     keys: &KeySet,
-    words: &mut SplitMix64,
+    query: &[Cipher],
 ) -> Result<(), BadCase>
     requires weights { weights.now.degree ≡ length secret.now }
     requires keys { keys_degree keys.now ≡ length secret.now }
 {
-    let query = queries(case, weights.keyword_blocks(), secret, words)?;
     let gate = Watch::of(case);
-    let replies = replies(rt, case, weights, secret, keys, &query, &gate)?;
-    put_found(line, case, secret, &query, &replies)?;
+    let replies = replies(rt, case, weights, secret, keys, query, &gate)?;
+    put_found(line, case, secret, query, &replies)?;
     Ok(gate.put(line, case.call())?)
 }
 

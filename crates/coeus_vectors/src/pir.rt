@@ -5,10 +5,10 @@ ghost use Rattle.co_math.specs.Logarithms.{log2_up};
 ghost use Rattle.co_bfv.specs.Ciphertexts.{ciphertext_degree};
 ghost use Rattle.co_switch.specs.Keys.{keys_degree};
 
-use crate::bfv::{Shown, drawn, encrypted, have_degree, put_all_opened};
+use crate::bfv::{Shown, drawn, encrypted, have_degree, put_cipher_digest, put_each_opened};
 use crate::cases::{BadCase, Case, degree_of};
 use crate::gates::Watch;
-use crate::lines::{put, put_bytes, put_ciphers, put_each};
+use crate::lines::{put, put_bytes, put_ciphers};
 use crate::slots::put_fault;
 use crate::switch::keyed;
 use co_bfv::{Cipher, Secret, encrypt};
@@ -59,37 +59,25 @@ fn put_query(line: &mut String, case: Case) -> Result<(), BadCase> {
 fn put_retrieval<R: Threads + Sync>(rt: &R, line: &mut String, case: Case) -> Result<(), BadCase> {
     let mut words = SplitMix64::seed_from_u64(case.number("stream") as u64);
     let (secret, keys) = keyed(case, &mut words)?;
-    let query = query(case, &secret, &mut words)?;
-    put_found(rt, line, case, &secret, &keys, &query)?;
-    put_asked(line, case, query)
+    put_retrieval_by(rt, line, case, &secret, &keys, &mut words)
 }
 
-/// The digest of a query, where that is known.
-fn put_asked(line: &mut String, case: Case, query: Cipher) -> Result<(), BadCase> {
-    if case.call() == "retrieve" {
-        put_ciphers(case.alloc, line, &[query])?;
-    }
-    Ok(())
-}
-
-/// What comes of a query, and what the gate of the case was told.
-fn put_found<R: Threads + Sync>(
+fn put_retrieval_by<R: Threads + Sync>(
     rt: &R,
     line: &mut String,
     case: Case,
     secret: &Secret,
     keys: &KeySet,
-    query: &Cipher,
+    words: &mut SplitMix64,
 ) -> Result<(), BadCase>
-    requires { keys_degree keys.now ≡ ciphertext_degree query.now }
+    requires { keys_degree keys.now ≡ length secret.now }
 {
+    let query = query(case, secret, words)?;
     if case.call() == "retrieve" {
-        put_expansion(line, case, secret, keys, query)?;
+        put_cipher_digest(case.alloc, line, &query)?;
+        put_expansion(line, case, secret, keys, &query)?;
     }
-    let gate = Watch::of(case);
-    let reply = replied(rt, case, keys, query, &gate)?;
-    put_reply(line, case, secret, &reply)?;
-    Ok(gate.put(line, case.call())?)
+    put_answer(rt, line, case, secret, keys, &query)
 }
 
 /// What the ciphertexts of the expanded query open to, and their digests.
@@ -103,8 +91,24 @@ fn put_expansion(
     requires { keys_degree keys.now ≡ ciphertext_degree query.now }
 {
     let expanded = expanded(case, keys, query)?;
-    put_all_opened(case.alloc, line, secret, &expanded, Shown::Coefficients)?;
-    Ok(put_each(case.alloc, line, &expanded)?)
+    put_each_opened(case.alloc, line, secret, &expanded, Shown::Coefficients)
+}
+
+/// The reply, and what the gate of the case was told.
+fn put_answer<R: Threads + Sync>(
+    rt: &R,
+    line: &mut String,
+    case: Case,
+    secret: &Secret,
+    keys: &KeySet,
+    query: &Cipher,
+) -> Result<(), BadCase>
+    requires { keys_degree keys.now ≡ ciphertext_degree query.now }
+{
+    let gate = Watch::of(case);
+    let reply = replied(rt, case, keys, query, &gate)?;
+    put_reply(line, case, secret, &reply)?;
+    Ok(gate.put(line, case.call())?)
 }
 
 /// What the reply opens to, behind its digest where that is known.

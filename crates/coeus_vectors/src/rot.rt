@@ -1,14 +1,14 @@
 //! Rotations of a ciphertext.
 
-ghost use Rattle.std.specs.Prelude.{◌≡◌};
+ghost use Rattle.std.specs.Prelude.{◌≡◌, length};
 ghost use Rattle.co_bfv.specs.Ciphertexts.{ciphertext_degree};
 ghost use Rattle.co_switch.specs.Keys.{keys_degree};
 
-use crate::bfv::{Shown, encrypted_slots, put_all_opened};
+use crate::bfv::{Shown, encrypted_slots, put_each_opened};
 use crate::cases::{BadCase, Case};
-use crate::lines::{put, put_each};
+use crate::lines::put;
 use crate::switch::keyed;
-use co_bfv::Cipher;
+use co_bfv::{Cipher, Secret};
 use co_rot::{Visitor, crown, parent, subtree_count, subtree_size, walk_subtree};
 use co_switch::{KeySet, Steps};
 use rand_core::SeedableRng;
@@ -85,10 +85,21 @@ fn walk_all<V: Visitor>(
 fn put_rotations(line: &mut String, case: Case) -> Result<(), BadCase> {
     let mut words = SplitMix64::seed_from_u64(case.number("stream") as u64);
     let (secret, keys) = keyed(case, &mut words)?;
-    let query = encrypted_slots(case, "slots", &secret, &mut words)?;
-    let rotations = rotations(case.alloc, &query, &keys)?;
-    put_all_opened(case.alloc, line, &secret, &rotations, Shown::Slots)?;
-    Ok(put_each(case.alloc, line, &rotations)?)
+    put_rotations_by(line, case, &secret, &keys, &mut words)
+}
+
+fn put_rotations_by(
+    line: &mut String,
+    case: Case,
+    secret: &Secret,
+    keys: &KeySet,
+    words: &mut SplitMix64,
+) -> Result<(), BadCase>
+    requires { keys_degree keys.now ≡ length secret.now }
+{
+    let query = encrypted_slots(case, "slots", secret, words)?;
+    let rotations = rotations(case.alloc, &query, keys)?;
+    put_each_opened(case.alloc, line, secret, &rotations, Shown::Slots)
 }
 
 fn rotations(alloc: Global, query: &Cipher, keys: &KeySet) -> Result<Vec<Cipher>, AllocError>

@@ -42,8 +42,27 @@ fn put_session<R: Runs>(rt: &R, line: &mut String, case: Case) -> Result<(), Bad
     requires { R.is_shared }
 {
     let loaded = loaded(case)?;
-    let mut link = LocalLink::new(rt, case.alloc, &loaded, 2);
-    put_replies(line, case, &mut link)?;
+    put_session_over(rt, line, case, &loaded)
+}
+
+fn put_session_over<R: Runs>(
+    rt: &R,
+    line: &mut String,
+    case: Case,
+    loaded: &Loaded,
+) -> Result<(), BadCase>
+    requires { R.is_shared }
+{
+    let mut link = LocalLink::new(rt, case.alloc, loaded, 2);
+    put_told(line, case, &mut link)
+}
+
+fn put_told<R: Runs>(
+    line: &mut String,
+    case: Case,
+    link: &mut LocalLink<R>,
+) -> Result<(), BadCase> {
+    put_replies(line, case, link)?;
     put(line, link.exchanges().len() as u128)?;
     Ok(())
 }

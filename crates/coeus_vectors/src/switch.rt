@@ -48,11 +48,11 @@ fn key<R: Rng>(case: Case, secret: &Secret, rng: &mut R) -> Result<GaloisKey, Ba
 fn put_key<R: Rng>(line: &mut String, case: Case, rng: &mut R) -> Result<(), BadCase> {
     let secret = drawn(case, rng)?;
     let key = key(case, &secret, rng)?;
-    Ok(put_pairs(case.alloc, line, &key)?)
+    put_pairs(case.alloc, line, &key)
 }
 
 /// The first pair of a key, and the digest of the others.
-fn put_pairs(alloc: Global, line: &mut String, key: &GaloisKey) -> Result<(), AllocError> {
+fn put_pairs(alloc: Global, line: &mut String, key: &GaloisKey) -> Result<(), BadCase> {
     put_pair(line, key.k0(0))?;
     put_pair(line, key.k1(0))?;
     let mut others = Vec::new(alloc);
@@ -60,7 +60,7 @@ fn put_pairs(alloc: Global, line: &mut String, key: &GaloisKey) -> Result<(), Al
         spell_pair(&mut others, key.k0(index))?;
         spell_pair(&mut others, key.k1(index))?;
     }
-    put_digest(alloc, line, &others)
+    Ok(put_digest(alloc, line, &others)?)
 }
 
 /// Adds the bytes of a polynomial: of each coefficient the residues modulo q1 and q2, seven bytes
@@ -79,13 +79,17 @@ fn spell_pair(bytes: &mut Vec<u8>, pair: &Pair) -> Result<(), AllocError> {
 /// The switch of an encryption, and what it opens to.
 fn put_switch<R: Rng>(line: &mut String, case: Case, rng: &mut R) -> Result<(), BadCase> {
     let secret = drawn(case, rng)?;
-    let cipher = encrypted(case, "message", &secret, rng)?;
-    let key = key(case, &secret, rng)?;
-    let switched = switched(case.alloc, &cipher, &key)?;
+    let switched = switched(case, &secret, rng)?;
     put_cipher(case.alloc, line, &secret, &switched)
 }
 
-fn switched(alloc: Global, cipher: &Cipher, key: &GaloisKey) -> Result<Cipher, BadCase> {
+fn switched<R: Rng>(case: Case, secret: &Secret, rng: &mut R) -> Result<Cipher, BadCase> {
+    let cipher = encrypted(case, "message", secret, rng)?;
+    let key = key(case, secret, rng)?;
+    applied(case.alloc, &cipher, &key)
+}
+
+fn applied(alloc: Global, cipher: &Cipher, key: &GaloisKey) -> Result<Cipher, BadCase> {
     if cipher.degree() != key.degree() {
         return Err(BadCase::Unfit);
     }
@@ -128,7 +132,7 @@ fn keys<R: Rng>(case: Case, secret: &Secret, rng: &mut R) -> Result<KeySet, BadC
 
 fn put_keys<R: Rng>(line: &mut String, case: Case, rng: &mut R) -> Result<(), BadCase> {
     let (_, keys) = keyed(case, rng)?;
-    Ok(put_key_set(case.alloc, line, case.call() == "keys", &keys)?)
+    put_key_set(case.alloc, line, case.call() == "keys", &keys)
 }
 
 /// The elements of a set of keys, and the digest of its bytes where it is known.
@@ -137,7 +141,7 @@ fn put_key_set(
     line: &mut String,
     whole: bool,
     keys: &KeySet,
-) -> Result<(), AllocError> {
+) -> Result<(), BadCase> {
     put_elements_of(line, "rotations", keys.rotations())?;
     put_elements_of(line, "expansions", keys.expansions())?;
     if whole {
