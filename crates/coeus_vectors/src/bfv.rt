@@ -10,7 +10,6 @@ use co_bfv::{Cipher, Secret, decrypt, encrypt, sample_error, sample_secret, samp
 use co_ring::{Modulus, Poly};
 use co_slots::{decode_slots, encode_slots};
 use rand_core::Rng;
-use rand_xoshiro::SplitMix64;
 use std::alloc::{AllocError, Global};
 
 pub fn line<R: Stand>(case: Case, rng: &mut R) -> Result<String, BadCase> {
@@ -71,27 +70,31 @@ pub fn encrypted<R: Rng>(
     ensures { IfOk result (λ c. ciphertext_degree c ≡ length secret.now) }
 {
     let message = case.poly(Modulus::Plain, name)?;
-    if message.degree() != secret.degree() {
-        return Err(BadCase::Unfit);
-    }
-    Ok(encrypt(case.alloc, secret, &message, rng)?)
+    encryption(case.alloc, &message, secret, rng)
 }
 
-/// The encryption of the slots of a field.
-pub fn encrypted_slots(
-    case: Case,
-    name: &str,
+/// The encryption of a message of the secret's degree.
+pub fn encryption<R: Rng>(
+    alloc: Global,
+    message: &Poly,
     secret: &Secret,
-    rng: &mut SplitMix64,
+    rng: &mut R,
 ) -> Result<Cipher, BadCase>
+    requires { message.now.modulus ≡ Modulus.Plain }
     ensures { IfOk result (λ c. ciphertext_degree c ≡ length secret.now) }
 {
-    let slots = case.residues(Modulus::Plain, name)?;
-    let message = encode_slots(case.alloc, degree_of(slots.len())?, &slots)?;
     if message.degree() != secret.degree() {
         return Err(BadCase::Unfit);
     }
-    Ok(encrypt(case.alloc, secret, &message, rng)?)
+    Ok(encrypt(alloc, secret, message, rng)?)
+}
+
+/// The message whose slots a field lists.
+pub fn slots_message(case: Case, name: &str) -> Result<Poly, BadCase>
+    ensures { IfOk result (λ p. p.modulus ≡ Modulus.Plain) }
+{
+    let slots = case.residues(Modulus::Plain, name)?;
+    Ok(encode_slots(case.alloc, degree_of(slots.len())?, &slots)?)
 }
 
 /// Whether all ciphertexts have so many coefficients.

@@ -4,7 +4,7 @@ ghost use Rattle.std.specs.Prelude.{ℕ, ◌≡◌, ◌+◌, ◌<◌, length, sl
 ghost use Rattle.co_matvec.specs.Weights.{AreEntries, Precedes};
 ghost use Rattle.co_switch.specs.Keys.{keys_degree};
 
-use crate::bfv::{Shown, encrypted_slots, have_degree, put_all_opened};
+use crate::bfv::{Shown, encryption, have_degree, put_all_opened, slots_message};
 use crate::cases::{BadCase, Case, degree_of};
 use crate::gates::Watch;
 use crate::lines::put_ciphers;
@@ -138,7 +138,8 @@ fn block_query(
     words: &mut SplitMix64,
 ) -> Result<Cipher, BadCase> {
     let name = format!(in case.alloc; "query{block}")?;
-    encrypted_slots(case, name.as_str(), secret, words)
+    let message = slots_message(case, name.as_str())?;
+    encryption(case.alloc, &message, secret, words)
 }
 
 /// The replies to a query.
@@ -167,40 +168,27 @@ fn replies<R: Threads + Sync>(
 fn put_scores<R: Threads + Sync>(rt: &R, line: &mut String, case: Case) -> Result<(), BadCase> {
     let mut words = SplitMix64::seed_from_u64(case.number("stream") as u64);
     let (secret, keys) = keyed(case, &mut words)?;
-    put_scores_by(rt, line, case, &secret, &keys, &mut words)
-}
-
-fn put_scores_by<R: Threads + Sync>(
-    rt: &R,
-    line: &mut String,
-    case: Case,
-    secret: &Secret,
-    keys: &KeySet,
-    words: &mut SplitMix64,
-) -> Result<(), BadCase>
-    requires { keys_degree keys.now ≡ length secret.now }
-{
-    let weights = weights(case, secret)?;
-    let query = queries(case, weights.keyword_blocks(), secret, words)?;
-    put_replies(rt, line, case, &weights, secret, keys, &query)
+    let weights = weights(case, &secret)?;
+    put_scores_by(rt, line, case, &weights, &secret, &keys, &mut words)
 }
 
 /// The scores of a case, and what its gate was told.
-fn put_replies<R: Threads + Sync>(
+fn put_scores_by<R: Threads + Sync>(
     rt: &R,
     line: &mut String,
     case: Case,
     weights: &Weights,
     secret: &Secret,
     keys: &KeySet,
-    query: &[Cipher],
+    words: &mut SplitMix64,
 ) -> Result<(), BadCase>
     requires weights { weights.now.degree ≡ length secret.now }
     requires keys { keys_degree keys.now ≡ length secret.now }
 {
+    let query = queries(case, weights.keyword_blocks(), secret, words)?;
     let gate = Watch::of(case);
-    let replies = replies(rt, case, weights, secret, keys, query, &gate)?;
-    put_found(line, case, secret, query, &replies)?;
+    let replies = replies(rt, case, weights, secret, keys, &query, &gate)?;
+    put_found(line, case, secret, &query, &replies)?;
     Ok(gate.put(line, case.call())?)
 }
 

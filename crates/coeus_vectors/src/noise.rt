@@ -38,6 +38,7 @@ pub fn tested(case: Case) -> Result<Tested, BadCase> {
 }
 
 /// A shape that passes the test.
+#[tactic(auto, unfolding(co_noise::specs::Bounds::test_of))]
 pub fn passed(shape: &Shape) -> Result<Tested, BadCase>
     ensures { IfOk result (λ t. t ≡ shape.now) }
 {

@@ -5,13 +5,15 @@ ghost use Rattle.co_math.specs.Logarithms.{log2_up};
 ghost use Rattle.co_bfv.specs.Ciphertexts.{ciphertext_degree};
 ghost use Rattle.co_switch.specs.Keys.{keys_degree};
 
-use crate::bfv::{Shown, drawn, encrypted, have_degree, put_cipher_digest, put_each_opened};
+use crate::bfv::{
+    Shown, drawn, encrypted, encryption, have_degree, put_cipher_digest, put_each_opened,
+};
 use crate::cases::{BadCase, Case, degree_of};
 use crate::gates::Watch;
 use crate::lines::{put, put_bytes, put_ciphers};
 use crate::slots::put_fault;
 use crate::switch::keyed;
-use co_bfv::{Cipher, Secret, encrypt};
+use co_bfv::{Cipher, Secret};
 use co_pir::{Rows, answer, expand, levels, open_reply, query_message};
 use co_ring::{Degree, Modulus, Poly};
 use co_switch::{KeySet, Steps};
@@ -59,55 +61,28 @@ fn put_query(line: &mut String, case: Case) -> Result<(), BadCase> {
 fn put_retrieval<R: Threads + Sync>(rt: &R, line: &mut String, case: Case) -> Result<(), BadCase> {
     let mut words = SplitMix64::seed_from_u64(case.number("stream") as u64);
     let (secret, keys) = keyed(case, &mut words)?;
-    put_retrieval_by(rt, line, case, &secret, &keys, &mut words)
+    let query = query(case, &secret, &mut words)?;
+    put_found(rt, line, case, &secret, &keys, &query)
 }
 
-fn put_retrieval_by<R: Threads + Sync>(
+/// What comes of a query, and what the gate of the case was told.
+fn put_found<R: Threads + Sync>(
     rt: &R,
     line: &mut String,
     case: Case,
     secret: &Secret,
     keys: &KeySet,
-    words: &mut SplitMix64,
+    query: &Cipher,
 ) -> Result<(), BadCase>
-    requires { keys_degree keys.now ≡ length secret.now }
+    requires { keys_degree keys.now ≡ ciphertext_degree query.now }
 {
-    let query = query(case, secret, words)?;
     if case.call() == "retrieve" {
-        put_cipher_digest(case.alloc, line, &query)?;
-        put_expansion(line, case, secret, keys, &query)?;
+        put_cipher_digest(case.alloc, line, query)?;
+        let expanded = expanded(case, keys, query)?;
+        put_each_opened(case.alloc, line, secret, &expanded, Shown::Coefficients)?;
     }
-    put_answer(rt, line, case, secret, keys, &query)
-}
-
-/// What the ciphertexts of the expanded query open to, and their digests.
-fn put_expansion(
-    line: &mut String,
-    case: Case,
-    secret: &Secret,
-    keys: &KeySet,
-    query: &Cipher,
-) -> Result<(), BadCase>
-    requires { keys_degree keys.now ≡ ciphertext_degree query.now }
-{
-    let expanded = expanded(case, keys, query)?;
-    put_each_opened(case.alloc, line, secret, &expanded, Shown::Coefficients)
-}
-
-/// The reply, and what the gate of the case was told.
-fn put_answer<R: Threads + Sync>(
-    rt: &R,
-    line: &mut String,
-    case: Case,
-    secret: &Secret,
-    keys: &KeySet,
-    query: &Cipher,
-) -> Result<(), BadCase>
-    requires { keys_degree keys.now ≡ ciphertext_degree query.now }
-{
     let gate = Watch::of(case);
-    let reply = replied(rt, case, keys, query, &gate)?;
-    put_reply(line, case, secret, &reply)?;
+    put_reply(line, case, secret, &replied(rt, case, keys, query, &gate)?)?;
     Ok(gate.put(line, case.call())?)
 }
 
@@ -128,10 +103,7 @@ fn query(case: Case, secret: &Secret, words: &mut SplitMix64) -> Result<Cipher, 
     ensures { IfOk result (λ c. ciphertext_degree c ≡ length secret.now) }
 {
     let message = message(case)?;
-    if message.degree() != secret.degree() {
-        return Err(BadCase::Unfit);
-    }
-    Ok(encrypt(case.alloc, secret, &message, words)?)
+    encryption(case.alloc, &message, secret, words)
 }
 
 /// Whether there are expansion keys for so many rows.

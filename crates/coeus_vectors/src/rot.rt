@@ -4,7 +4,7 @@ ghost use Rattle.std.specs.Prelude.{◌≡◌, length};
 ghost use Rattle.co_bfv.specs.Ciphertexts.{ciphertext_degree};
 ghost use Rattle.co_switch.specs.Keys.{keys_degree};
 
-use crate::bfv::{Shown, encrypted_slots, put_each_opened};
+use crate::bfv::{Shown, encryption, put_each_opened, slots_message};
 use crate::cases::{BadCase, Case};
 use crate::lines::put;
 use crate::switch::keyed;
@@ -97,7 +97,8 @@ fn put_rotations_by(
 ) -> Result<(), BadCase>
     requires { keys_degree keys.now ≡ length secret.now }
 {
-    let query = encrypted_slots(case, "slots", secret, words)?;
+    let message = slots_message(case, "slots")?;
+    let query = encryption(case.alloc, &message, secret, words)?;
     let rotations = rotations(case.alloc, &query, keys)?;
     put_each_opened(case.alloc, line, secret, &rotations, Shown::Slots)
 }
