@@ -14,8 +14,6 @@ mod diagonals;
 mod laws;
 mod matrix;
 mod scores;
-#[cfg(test)]
-mod tests;
 mod units;
 mod weights;
 
