@@ -23,6 +23,3 @@ pub use opening::open_reply;
 pub use queries::{levels, query_message};
 pub use replying::answer;
 pub use table::Rows;
-
-#[cfg(test)]
-mod tests;
