@@ -160,72 +160,80 @@ fn failing_desk<T: Threads + Sync>(
     Desk::new(alloc, files, port(alloc, None, None, None)?, put, say)
 }
 
-#[test]
-fn files_that_fail(rt: HostRuntime) -> Result<(), Fail> {
-    let alloc = rt.alloc();
-    let mut plain = failing_desk(&rt, alloc, Some(0), None, None)?;
-    let words = ["plain", "c1", "--", "sea", "wind"];
-    assert_eq!(rt; plain.go(&rt, alloc, &words)?, 9);
-    assert_eq!(rt; plain.out.as_slice(), b"".as_slice());
-    assert_eq!(rt; plain.err.as_slice(), b"coeus: file c1\n".as_slice());
-    assert_eq!(rt; plain.go(&rt, alloc, &words)?, 0);
-    assert_eq!(rt; plain.out.as_slice(), FOUND);
+// Runs the same words twice on a desk on which a call fails: whether the first run has status 9,
+// says this line and leaves the output, and the second has status 0 and gives the answer.
+fn runs_again<T: Threads + Sync>(
+    rt: &T,
+    alloc: Global,
+    mut desk: Desk,
+    words: &[&str],
+    line: &[u8],
+    answer: &[u8],
+) -> Result<bool, AllocError> {
+    let first = desk.go(rt, alloc, words)?;
+    let quiet = desk.out.as_slice().is_empty();
+    let says = desk.err.as_slice() == line;
+    let second = desk.go(rt, alloc, words)?;
+    Ok(first == 9 && quiet && says && second == 0 && desk.out.as_slice() == answer)
+}
 
-    let mut local = failing_desk(&rt, alloc, Some(0), None, None)?;
-    let words = ["local", "lib", "--", "sea", "wind"];
-    assert_eq!(rt; local.go(&rt, alloc, &words)?, 9);
-    assert_eq!(rt; local.out.as_slice(), b"".as_slice());
-    assert_eq!(rt; local.err.as_slice(), b"coeus: file lib\n".as_slice());
-    assert_eq!(rt; local.go(&rt, alloc, &words)?, 0);
-    assert_eq!(rt; local.out.as_slice(), FOUND);
+const PLAIN: [&str; 5] = ["plain", "c1", "--", "sea", "wind"];
+
+const LOCAL: [&str; 5] = ["local", "lib", "--", "sea", "wind"];
+
+#[test]
+fn plain_again(rt: HostRuntime) -> Result<(), Fail> {
+    let alloc = rt.alloc();
+    let read = failing_desk(&rt, alloc, Some(0), None, None)?;
+    let line = b"coeus: file c1\n";
+    assert_eq!(rt; runs_again(&rt, alloc, read, &PLAIN, line, FOUND)?, true);
+    let put = failing_desk(&rt, alloc, None, Some(0), None)?;
+    let line = b"coeus: output\n";
+    assert_eq!(rt; runs_again(&rt, alloc, put, &PLAIN, line, FOUND)?, true);
     Ok(())
 }
 
 #[test]
-fn a_write_that_fails(rt: HostRuntime) -> Result<(), Fail> {
+fn local_again(rt: HostRuntime) -> Result<(), Fail> {
     let alloc = rt.alloc();
-    let mut desk = failing_desk(&rt, alloc, Some(1), None, None)?;
+    let read = failing_desk(&rt, alloc, Some(0), None, None)?;
+    let line = b"coeus: file lib\n";
+    assert_eq!(rt; runs_again(&rt, alloc, read, &LOCAL, line, FOUND)?, true);
+    let put = failing_desk(&rt, alloc, None, Some(0), None)?;
+    let line = b"coeus: output\n";
+    assert_eq!(rt; runs_again(&rt, alloc, put, &LOCAL, line, FOUND)?, true);
+    Ok(())
+}
+
+#[test]
+fn import_again(rt: HostRuntime) -> Result<(), Fail> {
+    let alloc = rt.alloc();
+    let write = failing_desk(&rt, alloc, Some(1), None, None)?;
     let words = ["import", "c1", "other", "--degree", "16"];
-    assert_eq!(rt; desk.go(&rt, alloc, &words)?, 9);
-    assert_eq!(rt; desk.out.as_slice(), b"".as_slice());
-    assert_eq!(rt; desk.err.as_slice(), b"coeus: file other\n".as_slice());
-    assert_eq!(rt; desk.files.read("c1", 4096).ok().is_some(), true);
-    assert_eq!(rt; desk.files.read("lib", 65_536).ok().is_some(), true);
-    assert_eq!(rt; desk.go(&rt, alloc, &words)?, 0);
-    assert_eq!(rt;
-        desk.out.as_slice(),
-        b"documents 4 terms 5 rows 2 bins 2 chunks 1\n".as_slice()
-    );
+    let line = b"coeus: file other\n";
+    let answer = b"documents 4 terms 5 rows 2 bins 2 chunks 1\n";
+    assert_eq!(rt; runs_again(&rt, alloc, write, &words, line, answer)?, true);
     Ok(())
 }
 
-#[test]
-fn outputs_that_fail(rt: HostRuntime) -> Result<(), Fail> {
-    let alloc = rt.alloc();
-    let mut plain = failing_desk(&rt, alloc, None, Some(0), None)?;
-    let words = ["plain", "c1", "--", "sea", "wind"];
-    assert_eq!(rt; plain.go(&rt, alloc, &words)?, 9);
-    assert_eq!(rt; plain.out.as_slice(), b"".as_slice());
-    assert_eq!(rt; plain.err.as_slice(), b"coeus: output\n".as_slice());
-    assert_eq!(rt; plain.go(&rt, alloc, &words)?, 0);
-    assert_eq!(rt; plain.out.as_slice(), FOUND);
-
-    let mut local = failing_desk(&rt, alloc, None, Some(0), None)?;
-    let words = ["local", "lib", "--", "sea", "wind"];
-    assert_eq!(rt; local.go(&rt, alloc, &words)?, 9);
-    assert_eq!(rt; local.out.as_slice(), b"".as_slice());
-    assert_eq!(rt; local.go(&rt, alloc, &words)?, 0);
-    assert_eq!(rt; local.out.as_slice(), FOUND);
-
-    let mut empty = failing_desk(&rt, alloc, None, None, Some(0))?;
+// Runs `plain` on a corpus with no document where a put on the error output fails, and again: whether
+// both runs have status 3, and the second says its line.
+fn refuses_again<T: Threads + Sync>(rt: &T, alloc: Global) -> Result<bool, AllocError> {
+    let mut desk = failing_desk(rt, alloc, None, None, Some(0))?;
     let words = ["plain", "empty", "--", "sea"];
-    assert_eq!(rt; empty.go(&rt, alloc, &words)?, 3);
-    assert_eq!(rt; empty.err.as_slice(), b"".as_slice());
-    assert_eq!(rt; empty.go(&rt, alloc, &words)?, 3);
-    assert_eq!(rt;
-        empty.err.as_slice(),
-        b"coeus: corpus: no document\n".as_slice()
-    );
+    let first = desk.go(rt, alloc, &words)?;
+    let second = desk.go(rt, alloc, &words)?;
+    let says = desk
+        .err
+        .as_slice()
+        .ends_with(b"coeus: corpus: no document\n");
+    Ok(first == 3 && second == 3 && says)
+}
+
+#[test]
+fn refusals_again(rt: HostRuntime) -> Result<(), Fail> {
+    let alloc = rt.alloc();
+    assert_eq!(rt; refuses_again(&rt, alloc)?, true);
     Ok(())
 }
 
