@@ -1,8 +1,7 @@
 -- All units together are the reply; the sums of two workers add up.
-use Rattle.std.proofs.Common.{◌≡◌, ℕ, zero, suc, ◌+◌, ◌-◌, ◌*◌, ◌/◌, ◌%◌, ◌^◌, ◌<◌, ◌≤◌, ◌≢◌, refl, sym, ap, subst, ◌∙◌, ⊎_elim, arith, Bool, true, false, cond, min, eqb, eq-eqb, List, [], ◌∷◌, ◌++◌, length, get_or, set, map, All}
+use Rattle.std.proofs.Common.{◌≡◌, ℕ, suc, ◌+◌, ◌-◌, ◌*◌, ◌/◌, ◌%◌, ◌^◌, ◌<◌, ◌≤◌, ◌≢◌, refl, sym, ap, subst, ◌∙◌, ⊎_elim, arith, false, cond, min, eqb, eq-eqb, List, [], ◌∷◌, ◌++◌, length, All}
 use Rattle.std.specs.Prelude.{◌==◌, if◌then◌else◌}
 use Rattle.std.specs.Int.{div_ceil}
-use Rattle.std.specs.List.{range_with_len}
 use Rattle.std.proofs.lemmas.Bool.{cases_eq}
 use Rattle.std.proofs.lemmas.Grind.{div_ceil_times}
 use Rattle.std.proofs.Math.Nat.{mul-le-mul_left, mul-le-mul_right}
@@ -13,7 +12,7 @@ use Rattle.co_math.specs.Parameters.{q}
 use Rattle.co_math.specs.Coefficients.{coefficients, IsDegree, residues_of}
 use Rattle.co_bfv.specs.Ciphertexts.{Ciphertext, ciphertext_degree, ciphertext_sum, zero_ciphertext, plain_product}
 use Rattle.co_bfv.specs.Totals.{no_ciphertext, ciphertext_at, IsOfDegree, ciphertext_total}
-use Rattle.co_bfv.proofs.Totals.{total_of_totals, ciphertext_total-zero, ciphertext_total-suc, ciphertext_total-degree, ciphertext_total-IsOfDegree, ciphertext_sum-zero, ciphertext_sum-assoc, ciphertext_sum-degree, ciphertext_sum-IsOfDegree}
+use Rattle.co_bfv.proofs.Totals.{total_of_totals, ciphertext_total-zero, ciphertext_total-suc, ciphertext_total-degree, ciphertext_total-IsOfDegree, ciphertext_sum-zero, ciphertext_sum-IsOfDegree}
 use Rattle.co_board.specs.Once.{sum_below}
 use Rattle.co_board.proofs.Counts.{sum_below-constant}
 use Rattle.co_switch.specs.Steps.{raised, HasRisen}

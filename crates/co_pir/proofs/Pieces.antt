@@ -1,14 +1,14 @@
 -- Rows cut into pieces of 64: all pieces together are all rows.
-use Rattle.std.proofs.Common.{◌≡◌, ℕ, zero, suc, ◌+◌, ◌-◌, ◌*◌, ◌/◌, ◌%◌, ◌<◌, ◌≤◌, ◌≢◌, refl, sym, ap, ◌∙◌, ⊎_elim, arith, Bool, true, false, cond, min, eqb, eq-eqb, ℤ, pos, ◌+ℤ◌}
+use Rattle.std.proofs.Common.{◌≡◌, ℕ, zero, suc, ◌+◌, ◌-◌, ◌*◌, ◌/◌, ◌%◌, ◌<◌, ◌≢◌, refl, sym, ap, ◌∙◌, ⊎_elim, arith, true, false, cond, min, eqb, eq-eqb, ℤ, pos, ◌+ℤ◌}
 use Rattle.std.specs.Prelude.{◌==◌, if◌then◌else◌}
 use Rattle.std.specs.Int.{div_ceil}
-use Rattle.std.proofs.lemmas.Bool.{cases_lt, eqb-true}
+use Rattle.std.proofs.lemmas.Bool.{cases_lt}
 use Rattle.std.proofs.lemmas.Bool.Decides.{nat_tests}
 use Rattle.std.proofs.lemmas.Nat.{div-mul-add, mod-mul-add}
 use Rattle.std.proofs.lemmas.Grind.{div_ceil_times}
 use Rattle.co_math.specs.Sums.{total}
 use Rattle.co_math.proofs.Integers.{linear}
-use Rattle.co_math.proofs.Totals.{total-same, total-none, total-single, total-blocks, total-zero, total-suc}
+use Rattle.co_math.proofs.Totals.{total-same, total-none, total-single, total-blocks, total-zero}
 
 -- a sum in two parts
 pub total-cut : (a b : ℕ) (g : ℕ → ℤ) → total (a + b) g ≡ total a g +ℤ total b (λ j. g (a + j))

@@ -1,19 +1,14 @@
 -- The reply to a query, by the formulas alone.
-use Rattle.std.proofs.Common.{◌≡◌, ℕ, zero, suc, ◌+◌, ◌*◌, ◌^◌, ◌<◌, ◌≤◌, refl, sym, ap, subst, ◌∙◌, ⊎_elim, arith, ℤ, length}
-use Rattle.std.proofs.lemmas.Bool.{cases_lt}
-use Rattle.std.specs.Prelude.{All}
+use Rattle.std.proofs.Common.{ℕ, ◌<◌, refl, sym, ◌∙◌, arith, ℤ, length}
 use Rattle.std.proofs.lemmas.List.Elements.{All-get_or}
-use Rattle.std.proofs.Math.Nat.{pow-le-pow_right}
-use Rattle.co_math.specs.Coefficients.{IsDegree}
-use Rattle.co_math.specs.Logarithms.{log2_up, IsLogarithm}
+use Rattle.co_math.specs.Logarithms.{log2_up}
 use Rattle.co_noise.specs.Bounds.{retrieve_bound}
-use Rattle.co_bfv.specs.Ciphertexts.{Ciphertext, ciphertext_degree}
-use Rattle.co_switch.specs.Keys.{Keys, IsKey, AreKeys, no_key, expansion_key}
+use Rattle.co_bfv.specs.Ciphertexts.{Ciphertext}
+use Rattle.co_switch.specs.Keys.{Keys, IsKey, no_key}
 use Rattle.co_pir.specs.Expansions.{expanded}
-use Rattle.co_pir.specs.Tables.{Table, IsTable, row_bytes}
+use Rattle.co_pir.specs.Tables.{Table, row_bytes}
 use Rattle.co_pir.specs.Meanings.{AsksRow, CanRetrieve, MeansBytes}
 use Rattle.co_pir.specs.Replies.{retrieved}
-use Rattle.co_math.proofs.Degrees.{degree_most}
 use Rattle.co_math.proofs.Logarithms.{log2_up-is}
 use Rattle.co_pir.proofs.Expanding.{length-expanded}
 use Rattle.co_pir.proofs.Asked.{CanExpand, expanded_means}

@@ -1,10 +1,10 @@
 -- What is made once of a table, and of the expansion of a query.
-use Rattle.std.specs.Prelude.{ℕ, ◌≡◌, ◌<◌, ◌≤◌, ◌*◌, ◌/◌, ◌%◌, List, length, slice_index_or}
+use Rattle.std.specs.Prelude.{ℕ, ◌≡◌, ◌<◌, ◌*◌, ◌/◌, ◌%◌, List, length, slice_index_or}
 use Rattle.co_rns.specs.Spectra.{PairValues}
 use Rattle.co_bfv.specs.Ciphertexts.{Ciphertext}
 use Rattle.co_bfv.specs.Totals.{ciphertext_at}
 use Rattle.co_spectra.specs.Values.{CipherValues, AreCipherValues, ArePlainValues}
-use Rattle.co_pir.specs.Tables.{Table, IsTable, payload_at}
+use Rattle.co_pir.specs.Tables.{Table, payload_at}
 
 -- the values of the payload polynomial of a chunk of a row
 abbrev pub IsPayloadOf : Table → ℕ → ℕ → PairValues → Type 0

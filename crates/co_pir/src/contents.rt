@@ -1,6 +1,7 @@
 //! The bytes of the rows that a server holds.
 
 ghost use Rattle.std.specs.Prelude.{◌≡◌, ◌+◌, ◌<◌, ◌≤◌, ◌*◌, ◌^◌, length, IfOk};
+ghost use Rattle.co_math.specs.Coefficients.{AreBelow};
 ghost use Rattle.co_ring.specs.declared.moduli.Modulus.TheVariants.{Plain};
 ghost use Rattle.co_pir.specs.Tables as tables;
 ghost use Rattle.co_pir.specs.Units.{unit_count};
@@ -38,27 +39,21 @@ impl Model for Contents {
 
 impl Contents {
     /// The table of these bytes, row by row.
-    pub(crate) fn new(
-        alloc: Global,
-        degree: Degree,
-        rows: u32,
-        chunks: u32,
-        bytes: &[u8],
-    ) -> Result<Contents, AllocError>
+    pub(crate) fn new(degree: Degree, rows: u32, chunks: u32, bytes: Bytes) -> Contents
         requires some { 1 ≤ rows }
         requires few { rows ≤ degree }
         requires short { chunks ≤ 2097152 }
-        requires whole { length bytes.now ≡ rows * (chunks * (2 * degree)) }
-        ensures { IfOk result (λ t. t ≡ record { degree = degree; rows = rows; chunks = chunks; bytes = bytes.now }) }
+        requires whole { length bytes ≡ rows * (chunks * (2 * degree)) }
+        requires below { AreBelow 256 bytes }
+        ensures { result ≡ record { degree = degree; rows = rows; chunks = chunks; bytes = bytes } }
     {
         let _n = degree.get();
-        let bytes = Bytes::copy_of(alloc, bytes)?;
-        Ok(Contents {
+        Contents {
             degree,
             rows,
             chunks,
             bytes,
-        })
+        }
     }
 
     pub(crate) fn degree(&self) -> Degree

@@ -1,6 +1,6 @@
 -- One row of the piece after another.
-use Rattle.std.proofs.Common.{◌≡◌, ℕ, ◌+◌, ◌-◌, ◌*◌, ◌<◌, min, ap, subst, sym, ◌∙◌, arith, List, length}
-use Rattle.co_bfv.specs.Ciphertexts.{Ciphertext, ciphertext_sum}
+use Rattle.std.proofs.Common.{◌≡◌, ℕ, ◌+◌, ◌-◌, ◌*◌, min, ap, subst, sym, ◌∙◌, arith}
+use Rattle.co_bfv.specs.Ciphertexts.{ciphertext_sum}
 use Rattle.co_bfv.specs.Totals.{ciphertext_at}
 use Rattle.co_math.proofs.Degrees.{degree_most}
 use Rattle.co_spectra.specs.Values.{CipherValues, AreCipherValues, ArePlainValues}

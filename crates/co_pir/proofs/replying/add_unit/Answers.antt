@@ -1,5 +1,5 @@
 -- The chunk of a unit.
-use Rattle.std.proofs.Common.{◌≡◌, ◌<◌, ◌≤◌, ◌^◌, ◌/◌, arith, div-le_self}
+use Rattle.std.proofs.Common.{◌<◌, ◌^◌, arith, div-le_self}
 use Rattle.co_pir.proofs.replying.add_unit.Goals as goal
 
 pub overflow_cast-chunk : goal.overflow_cast-chunk

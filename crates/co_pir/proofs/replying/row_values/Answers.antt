@@ -1,7 +1,7 @@
-use Rattle.std.proofs.Common.{ℕ, ◌<◌, ◌∙◌, ap, sym, subst, arith, length}
+use Rattle.std.proofs.Common.{ℕ, ◌<◌, subst, arith, length}
 use Rattle.std.proofs.lemmas.List.{get_or_read}
 use Rattle.co_bfv.specs.Ciphertexts.{Ciphertext}
-use Rattle.co_bfv.specs.Totals.{no_ciphertext, ciphertext_at}
+use Rattle.co_bfv.specs.Totals.{no_ciphertext}
 use Rattle.co_spectra.specs.Values.{AreCipherValues}
 use Rattle.co_pir.proofs.Keeping.{one_row}
 use Rattle.co_pir.proofs.replying.row_values.Goals as goal

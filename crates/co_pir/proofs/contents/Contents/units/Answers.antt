@@ -1,5 +1,5 @@
 -- The chunks times the pieces.
-use Rattle.std.proofs.Common.{◌≡◌, ℕ, ◌*◌, ◌≤◌, ap, ◌∙◌, arith}
+use Rattle.std.proofs.Common.{◌*◌, ap, ◌∙◌, arith}
 use Rattle.co_pir.specs.Tables.{Table}
 use Rattle.co_pir.specs.Units.{pieces}
 use Rattle.co_pir.proofs.Answering.{units_fit}

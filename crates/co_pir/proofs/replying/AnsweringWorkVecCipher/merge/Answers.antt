@@ -1,5 +1,5 @@
 -- The sums of both workers' units.
-use Rattle.std.proofs.Common.{◌≡◌, ap, subst, sym, ◌∙◌, ◌++◌, List, length}
+use Rattle.std.proofs.Common.{ap, subst, sym, ◌∙◌, ◌++◌, List, length}
 use Rattle.co_bfv.specs.Ciphertexts.{Ciphertext}
 use Rattle.co_crew.proofs.Adding.{whole_kept}
 use Rattle.co_pir.specs.Units.{Answered, AreHeldSums}

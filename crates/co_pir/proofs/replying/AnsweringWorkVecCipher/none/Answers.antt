@@ -1,5 +1,5 @@
 -- Zeros are the sums of no unit.
-use Rattle.std.proofs.Common.{◌≡◌, ap, subst, sym, ◌∙◌, []}
+use Rattle.std.proofs.Common.{subst, []}
 use Rattle.co_pir.specs.Units.{Answered, AreHeldSums}
 use Rattle.co_pir.proofs.Answering.{none_held}
 use Rattle.co_pir.proofs.replying.AnsweringWorkVecCipher.none.Goals as goal
