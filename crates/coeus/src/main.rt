@@ -82,3 +82,6 @@ fn main(rt: HostRuntime) -> ExitCode {
     );
     ExitCode::from(status)
 }
+
+#[cfg(test)]
+mod tests;
