@@ -96,8 +96,8 @@ pub record IsDrawn (p : LocalWords) (library : Parts) (was is : Stream) : Type 0
 -- planned by the published numbers, and one follows another only where few terms are asked, the
 -- numbers pass the test and the reply was taken; what it answers is read from them, and nothing that
 -- it went past was a cause of another refusal; they are the drawn ones, and after an answer or a
--- refused placement the random words are left where the draws of one search leave them. If the library
--- is that of a corpus, the result is the plain answer, or that its hits can't be placed
+-- refused placement the random words are left where the draws of one search leave them. If the
+-- library is that of a corpus, the result is the plain answer, or that its hits can't be placed
 pub record IsSearched (p : LocalWords) (library : Parts) (was is : Stream)
     (result : Result Found SearchFault) : Type 0 where
   pub exchanges : List Exchange

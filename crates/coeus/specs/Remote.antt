@@ -62,12 +62,12 @@ abbrev pub AreTold : Option (List Exchange) → Option (List Exchange) → List 
 AreTold None is exchanges = is ≡ None
 AreTold (Some before) is exchanges = is ≡ Some exchanges
 
--- the one dial was answered, and a search over its link made these exchanges, which are those of the
--- dial where it tells them, and has this result. Number, order and lengths of the requests are planned
--- by the published numbers, the requests are the drawn ones, what it answers is read from the replies,
--- and each refusal has its cause there; where the next exchange failed, its target and its limit are
--- told over any dial. Where the exchanges are honest to the library of a corpus, whatever keys its
--- server held before, the result is the plain answer, exactly where the plain hits can be placed
+-- the one dial was answered, and a search over its link made some exchanges, those of the dial where
+-- it tells them, and has this result: number, order and lengths of the requests are planned by the
+-- published numbers, the requests are the drawn ones, what it answers is read from the replies, and
+-- each refusal has its cause there; the exchange that failed is the next of the plan, with the limit
+-- of its reply. Where they are honest to the library of a corpus, whatever keys its server held
+-- before, the result is the plain answer, exactly where the plain hits can be placed
 pub record Sought (p : SearchWords) (was is : Devices) (result : Result Found SearchFault)
     : Type 0 where
   pub dialled : Dialled p was.dial is.dial
