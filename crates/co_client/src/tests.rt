@@ -17,7 +17,8 @@ const PUBLIC: &[u8] =
     b"COEUSPB1\0\0\0\x10\0\0\0\x01\0\0\0\x01\0\0\0\x01\0\0\0\0\0\0\0\x01\0\0\0\x01\0\0\0\x01\x03sea";
 
 /// The published bytes of a library of degree 512 with four documents and five terms.
-const WIDE: &[u8] = b"COEUSPB1\0\0\x02\0\0\0\0\x04\0\0\0\x05\0\0\0\x10\0\0\0\0\0\0\0\x01\0\0\0\x01\0\0\0\x01\x07harbour\x04moor\x03sea\x04tide\x04wind";
+const WIDE: &[u8] =
+    b"COEUSPB1\0\0\x02\0\0\0\0\x04\0\0\0\x05\0\0\0\x10\0\0\0\0\0\0\0\x01\0\0\0\x01\0\0\0\x01\x07harbour\x04moor\x03sea\x04tide\x04wind";
 
 /// q modulo t, and what times t is -1 modulo the two primes of q.
 const REST: u64 = 22_541;
@@ -260,7 +261,10 @@ fn refusal_of(
 ) -> Result<Option<SearchFault>, AllocError> {
     let scores = vec![in alloc; 0; scores]?;
     let rest = Vec::new(alloc);
-    refusal(alloc, [public, Vec::new(alloc), scores, rest, Vec::new(alloc)])
+    refusal(
+        alloc,
+        [public, Vec::new(alloc), scores, rest, Vec::new(alloc)],
+    )
 }
 
 #[test]
