@@ -13,4 +13,5 @@ moved_on h s a i = a (i +ℤ pos s) -ℤ a (h *ℤ (i +ℤ pos s))
 -- place k after j levels, where level j substitutes by the inverse of h j
 unfoldable pub expanded : (ℕ → ℤ) → (ℤ → ℤ) → ℕ → ℕ → ℤ → ℤ
 expanded h p zero k = p
-expanded h p (suc j) k = if nat_lt k (2 ^ j) then kept (h j) (expanded h p j k) else moved_on (h j) (2 ^ j) (expanded h p j (k - 2 ^ j))
+expanded h p (suc j) k = if nat_lt k (2 ^ j) then kept (h j) (expanded h p j k)
+    else moved_on (h j) (2 ^ j) (expanded h p j (k - 2 ^ j))
