@@ -52,7 +52,8 @@ pub fn read_within<S: Source>(
     limit: u64,
 ) -> Result<Bytes, FileFault>
     ensures read { ReadsWithin limit (S.left source.old) (S.left source.new) result }
-    ensures cause { (result ≡ Err TooLong → ⊥) → FaultCause Failed (S.faults source.old) (S.faults source.new) result }
+    ensures cause { (result ≡ Err TooLong → ⊥)
+        → FaultCause Failed (S.faults source.old) (S.faults source.new) result }
     ensures beside { S.beside source.new ≡ S.beside source.old }
 {
     let most = (limit as usize).saturating_add(1);
