@@ -22,7 +22,9 @@ type Best = BTreeSet<(Reverse<u32>, u32)>;
 // One document more, of which so many are kept.
 fn keep_best(best: &mut Best, most: usize, document: u32, score: u32) -> Result<(), AllocError>
     requires { length best.old.keys ≤ most }
-    ensures keys { OnOk result (best.new.keys ≡ take most (if nat_lt 0 score then insert_key key_cmp best.old.keys (record { 0 = score }, document) else best.old.keys)) }
+    ensures keys { OnOk result (best.new.keys ≡ take most (if nat_lt 0 score
+        then insert_key key_cmp best.old.keys (record { 0 = score }, document)
+        else best.old.keys)) }
     ensures few { OnOk result (length best.new.keys ≤ most) }
 {
     if score == 0 {
