@@ -12,17 +12,20 @@ abbrev pub term_entries : List Document → ℕ → List ℕ → ℕ → List Do
 term_entries documents term w number [] = []
 term_entries documents term w number (d ∷ ds) =
     let x = weight documents w d in
-    if nat_lt 0 x then (term, number, x) ∷ term_entries documents term w (number + 1) ds else term_entries documents term w (number + 1) ds
+    if nat_lt 0 x then (term, number, x) ∷ term_entries documents term w (number + 1) ds
+    else term_entries documents term w (number + 1) ds
 
 -- the entries of these terms, the first of which has this number
 abbrev pub entries : List Document → ℕ → List (List ℕ) → List Entry
 entries documents term [] = []
-entries documents term (w ∷ ws) = term_entries documents term w 0 documents ++ entries documents (term + 1) ws
+entries documents term (w ∷ ws) =
+    term_entries documents term w 0 documents ++ entries documents (term + 1) ws
 
 -- the order of entries: by term, and of one term by document, after the entry before
 abbrev pub is_later : Option Entry → ℕ → ℕ → Bool
 is_later None term document = true
-is_later (Some before) term document = nat_lt before.0 term || before.0 == term && nat_lt before.1 document
+is_later (Some before) term document =
+    nat_lt before.0 term || before.0 == term && nat_lt before.1 document
 
 -- an entry that comes after the one before it, among so many terms and documents
 pub record IsEntry (terms documents : ℕ) (before : Option Entry) (e : Entry) : Type 0 where
@@ -35,4 +38,5 @@ pub record IsEntry (terms documents : ℕ) (before : Option Entry) (e : Entry) :
 -- entries in order, after the one before them
 abbrev pub AreEntries : ℕ → ℕ → Option Entry → List Entry → Type 0
 AreEntries terms documents before [] = Unit {0}
-AreEntries terms documents before (e ∷ es) = IsEntry terms documents before e × AreEntries terms documents (Some e) es
+AreEntries terms documents before (e ∷ es) =
+    IsEntry terms documents before e × AreEntries terms documents (Some e) es

@@ -36,7 +36,8 @@ fn entries_of(entries: &[(u32, u32, u16)], number: usize) -> &[(u32, u32, u16)]
 fn add_weight(scores: &mut [u32], document: u32, weight: u16)
     requires within { document < length scores.old }
     requires fits { slice_index scores.old document + weight < 2 ^ 32 }
-    ensures { (d : ℕ) → slice_index scores.new d ≡ slice_index scores.old d + (if document == d then weight else 0) }
+    ensures { (d : ℕ) → slice_index scores.new d ≡ slice_index scores.old d
+        + (if document == d then weight else 0) }
 {
     scores[document as usize] += u32::from(weight);
 }
@@ -45,7 +46,8 @@ fn add_weight(scores: &mut [u32], document: u32, weight: u16)
 fn add_weights(scores: &mut [u32], entries: &[(u32, u32, u16)])
     requires within { AllWithin (length scores.old) entries.now }
     requires fits { (d : ℕ) → slice_index scores.old d + document_weight d entries.now < 2 ^ 32 }
-    ensures { (d : ℕ) → slice_index scores.new d ≡ slice_index scores.old d + document_weight d entries.now }
+    ensures { (d : ℕ) → slice_index scores.new d ≡ slice_index scores.old d
+        + document_weight d entries.now }
 {
     for (_, document, weight) in entries {
         add_weight(scores, *document, *weight);
@@ -82,7 +84,8 @@ fn score_term(scores: &mut [u32], documents: &[Document], index: &Index, term: &
     requires index { index.now.weights ≡ entries documents.now 0 index.now.terms }
     requires within { length documents.now ≤ length scores.old }
     requires fits { (d : ℕ) → slice_index scores.old d + 4032 < 2 ^ 32 }
-    ensures { (d : ℕ) → slice_index scores.new d ≡ slice_index scores.old d + term_score documents.now index.now.terms term.now d }
+    ensures { (d : ℕ) → slice_index scores.new d ≡ slice_index scores.old d
+        + term_score documents.now index.now.terms term.now d }
 {
     if let Some(number) = number_of(&index.terms, term.as_str()) {
         add_weights(scores, entries_of(index.weights.as_slice(), number));
@@ -99,7 +102,8 @@ fn scores_of(
     ghost most: { ℕ }
     requires index { IsIndex most documents.now index.now }
     requires few { length query.now ≤ 16 }
-    ensures scores { IfOk result (λ v. v.items ≡ map (score_of most documents.now query.now) documents.now) }
+    ensures scores { IfOk result (λ v. v.items
+        ≡ map (score_of most documents.now query.now) documents.now) }
     ensures count { IfOk result (λ v. length v.items ≡ length documents.now) }
 {
     let mut scores = vec![in alloc; 0u32; documents.len()]?;
