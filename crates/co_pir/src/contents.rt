@@ -32,9 +32,19 @@ impl Model for Contents {
 
     ghost Value = { Table };
 
-    ghost view = { λ t. record { degree = t.degree; rows = t.rows; chunks = t.chunks; bytes = t.bytes } };
+    ghost view = { λ t. record {
+      degree = t.degree;
+      rows = t.rows;
+      chunks = t.chunks;
+      bytes = t.bytes;
+    } };
 
-    ghost invariant = { λ t. IsTable (record { degree = t.degree; rows = t.rows; chunks = t.chunks; bytes = t.bytes }) × (t.chunks ≤ 2097152) };
+    ghost invariant = { λ t. IsTable (record {
+      degree = t.degree;
+      rows = t.rows;
+      chunks = t.chunks;
+      bytes = t.bytes;
+    }) × (t.chunks ≤ 2097152) };
 }
 
 impl Contents {
@@ -75,7 +85,8 @@ impl Contents {
         self.chunks
     }
 
-    /// How many units of work an answer has: for each chunk one for each 64 rows, the last with fewer.
+    /// How many units of work an answer has: for each chunk one for each 64 rows, the last with
+    /// fewer.
     pub(crate) fn units(&self) -> u64
         ensures value { result ≡ unit_count self.now }
         ensures few { result ≤ 2 ^ 32 }
@@ -104,7 +115,10 @@ impl Contents {
     pub(crate) fn payload(&self, alloc: Global, row: u32, chunk: u32) -> Result<Poly, AllocError>
         requires row { row < self.now.rows }
         requires chunk { chunk < self.now.chunks }
-        ensures { IfOk result (λ p. p ≡ record { modulus = Plain; coeffs = payload_at self.now row chunk }) }
+        ensures { IfOk result (λ p. p ≡ record {
+          modulus = Plain;
+          coeffs = payload_at self.now row chunk;
+        }) }
     {
         let bytes = self.chunk(row, chunk);
         let payload = encode_bytes(alloc, self.degree(), bytes)?;
