@@ -1,4 +1,4 @@
-// Facts of numbers. Each function returns nothing: its contract is the fact.
+//! Facts of numbers. Each function returns nothing: its contract is the fact.
 
 ghost use Rattle.std.specs.Prelude.{◌≡◌, ◌+◌, ◌-◌, ◌*◌, ◌/◌, ◌%◌, ◌<◌, ◌≤◌, ◌^◌, ◌-ℤ◌, ℕ, ℤ, pos, List};
 ghost use Rattle.co_math.specs.Parameters.{first_modulus, second_modulus, q, plain_modulus, inverse_of_first};
