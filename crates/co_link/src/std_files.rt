@@ -133,10 +133,7 @@ fn replace_file<R: rt::Files>(
 ) -> Result<(), FileFault>
     ensures { result ≡ Err TooLong → ⊥ }
 {
-    let (beside, file) = match create_beside(rt, alloc, name) {
-        Ok(made) => made,
-        Err(fault) => return Err(fault),
-    };
+    let (beside, file) = create_beside(rt, alloc, name)?;
     let mut written = fill_file(file, mode, bytes);
     if written.is_ok() {
         written = fs::rename(rt, beside.as_str(), name);
