@@ -12,7 +12,9 @@ use std::collections::BTreeSet;
 /// A document and its score.
 #[derive(Clone, Copy, Debug, PartialEq, Eq)]
 pub struct Ranked {
+    /// The document's number.
     pub document: u32,
+    /// Its score, at least 1 where it is ranked.
     pub score: u32,
 }
 
