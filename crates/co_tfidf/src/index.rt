@@ -21,7 +21,9 @@ pub type Entries = Listed<(u32, u32, u16)>;
 /// weights of at least 1, ascending by the numbers of term and document.
 #[derive(Debug, Drop)]
 pub struct Index {
+    /// The vocabulary, in the order of bytes.
     pub terms: Terms,
+    /// The weights, ascending by term and document.
     pub weights: Entries,
 }
 

@@ -11,7 +11,9 @@ pub const MOST_COUNTED: u16 = 63;
 /// A document that has a term, and how often, up to `MOST_COUNTED`.
 #[derive(Clone, Copy, Debug)]
 pub struct Posting {
+    /// The document's number.
     pub document: u32,
+    /// How often it has the term.
     pub count: u16,
 }
 
