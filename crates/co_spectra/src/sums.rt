@@ -1,4 +1,4 @@
-// Sums of products of ciphertexts and plain polynomials.
+//! Sums of products of ciphertexts and plain polynomials.
 
 ghost use Rattle.std.specs.Prelude.{ℕ, ℤ, List, ◌≡◌, ◌+◌, ◌<◌, length, IfOk};
 ghost use Rattle.co_math.specs.Parameters.{q};
