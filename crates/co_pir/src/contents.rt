@@ -7,12 +7,16 @@ ghost use Rattle.co_pir.specs.Tables as tables;
 ghost use Rattle.co_pir.specs.Units.{unit_count};
 ghost use Rattle.co_pir.specs.Units as units;
 ghost use Rattle.co_pir.specs.Tables.{IsTable, chunk_bytes, payload_at};
+ghost use Rattle.co_pir.specs.declared.contents.TheConstants.{MOST_ROW_CHUNKS};
 
 use co_link::Bytes;
 use co_ring::{Degree, Poly};
 use co_slots::encode_bytes;
 use std::alloc::{AllocError, Global};
 use std::marker::Model;
+
+/// The most chunks of a row.
+pub const MOST_ROW_CHUNKS: u32 = 2_097_152;
 
 /// How many rows a unit of work has.
 pub(crate) const UNIT_ROWS: u32 = 64;
@@ -29,6 +33,7 @@ pub(crate) struct Contents {
 impl Model for Contents {
     ghost use Rattle.std.specs.Prelude.{◌≤◌};
     ghost use Rattle.co_pir.specs.Tables.{Table, IsTable};
+    ghost use Rattle.co_pir.specs.declared.contents.TheConstants.{MOST_ROW_CHUNKS};
 
     ghost Value = { Table };
 
@@ -44,7 +49,7 @@ impl Model for Contents {
       rows = t.rows;
       chunks = t.chunks;
       bytes = t.bytes;
-    }) × (t.chunks ≤ 2097152) };
+    }) × (t.chunks ≤ MOST_ROW_CHUNKS) };
 }
 
 impl Contents {
@@ -52,7 +57,7 @@ impl Contents {
     pub(crate) fn new(degree: Degree, rows: u32, chunks: u32, bytes: Bytes) -> Contents
         requires some { 1 ≤ rows }
         requires few { rows ≤ degree }
-        requires short { chunks ≤ 2097152 }
+        requires short { chunks ≤ MOST_ROW_CHUNKS }
         requires whole { length bytes ≡ rows * (chunks * (2 * degree)) }
         requires below { AreBelow 256 bytes }
         ensures { result ≡ record { degree = degree; rows = rows; chunks = chunks; bytes = bytes } }

@@ -18,6 +18,7 @@ mod queries;
 mod replying;
 mod table;
 
+pub use contents::MOST_ROW_CHUNKS;
 pub use expansion::expand;
 pub use laws::replies_mean_rows;
 pub use opening::open_reply;

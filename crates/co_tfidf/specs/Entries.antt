@@ -2,6 +2,7 @@
 use Rattle.std.specs.Prelude.{◌≡◌, ◌≤◌, ◌<◌, ℕ, ◌+◌, ◌++◌, ◌==◌, ◌&&◌, ◌||◌, Bool, true, nat_lt, if◌then◌else◌, List, [], ◌∷◌, Option, Some, None}
 use Rattle.co_corpus.specs.declared.documents.Document.{Document}
 use Rattle.co_tfidf.specs.Weight.{weight}
+use Rattle.co_tfidf.specs.declared.postings.TheConstants.{MOST_WEIGHT}
 
 -- the number of a term, the number of a document that has it, and its weight there
 abbrev pub Entry : Type 0
@@ -33,7 +34,7 @@ pub record IsEntry (terms documents : ℕ) (before : Option Entry) (e : Entry) :
   pub document : e.1 < documents
   pub later : is_later before e.0 e.1 ≡ true
   pub some : 1 ≤ e.2
-  pub few : e.2 ≤ 4032
+  pub few : e.2 ≤ MOST_WEIGHT
 
 -- entries in order, after the one before them
 abbrev pub AreEntries : ℕ → ℕ → Option Entry → List Entry → Type 0

@@ -10,6 +10,7 @@ ghost use Rattle.co_tfidf.specs.Entries.{entries, AreEntries};
 ghost use Rattle.co_tfidf.specs.EntryScores.{weight_at, weight_in, query_score};
 ghost use Rattle.co_tfidf.specs.Scores.{score_of};
 ghost use Rattle.co_tfidf.specs.Hits.{hits_of, AreHits};
+ghost use Rattle.co_tfidf.specs.declared.postings.TheConstants.{MOST_WEIGHT};
 
 /// The vocabulary has its properties, and no other list has them.
 pub fn one_vocabulary()
@@ -27,7 +28,7 @@ pub fn vocabulary_sizes()
         → All HasSize (vocabulary most documents) }
 {}
 
-/// The entries of an index ascend by term and document, with weights from 1 to 4032.
+/// The entries of an index ascend by term and document, with weights from 1 to `MOST_WEIGHT`.
 pub fn entries_are_in_order()
     ensures { (documents : List Document) (ws : List (List ℕ))
         → AreEntries (length ws) (length documents) None (entries documents 0 ws) }
@@ -51,7 +52,7 @@ pub fn scores_add_up()
         → f i ≡ weight_in documents w (slice_get documents d))
         → sum_by f (numbers_of ws query) ≡ query_score documents ws query d }
     ensures few { (documents : List Document) (ws query : List (List ℕ)) (d : ℕ)
-        → query_score documents ws query d ≤ 4032 * length query }
+        → query_score documents ws query d ≤ MOST_WEIGHT * length query }
 {}
 
 /// The hits are the documents of score at least 1 with their titles, by score downwards and then by

@@ -13,6 +13,8 @@ ghost use Rattle.co_tfidf.specs.Added.{document_weight, AllWithin};
 ghost use Rattle.co_tfidf.specs.EntryScores.{term_score};
 ghost use Rattle.co_tfidf.specs.Hits.{hit_of};
 ghost use Rattle.co_tfidf.specs.Found.{IsIndex, picked, found};
+ghost use Rattle.co_text.specs.declared.limits.TheConstants.{MAX_KEYWORDS};
+ghost use Rattle.co_tfidf.specs.declared.postings.TheConstants.{MOST_WEIGHT};
 
 use crate::Index;
 use co_corpus::{Corpus, Document};
@@ -83,7 +85,7 @@ fn score_term(scores: &mut [u32], documents: &[Document], index: &Index, term: &
     requires sorted { IsStrictlySortedBy (slice_cmp nat_cmp) index.now.terms }
     requires index { index.now.weights ≡ entries documents.now 0 index.now.terms }
     requires within { length documents.now ≤ length scores.old }
-    requires fits { (d : ℕ) → slice_index scores.old d + 4032 < 2 ^ 32 }
+    requires fits { (d : ℕ) → slice_index scores.old d + MOST_WEIGHT < 2 ^ 32 }
     ensures { (d : ℕ) → slice_index scores.new d ≡ slice_index scores.old d
         + term_score documents.now index.now.terms term.now d }
 {
@@ -101,7 +103,7 @@ fn scores_of(
 ) -> Result<Vec<u32>, AllocError>
     ghost most: { ℕ }
     requires index { IsIndex most documents.now index.now }
-    requires few { length query.now ≤ 16 }
+    requires few { length query.now ≤ MAX_KEYWORDS }
     ensures scores { IfOk result (λ v. v.items
         ≡ map (score_of most documents.now query.now) documents.now) }
     ensures count { IfOk result (λ v. length v.items ≡ length documents.now) }
@@ -148,7 +150,7 @@ pub fn plain_search(
 ) -> Result<Found, AllocError>
     ghost most: { ℕ }
     requires index { IsIndex most corpus.now index.now }
-    requires few { length (distinct query.now) ≤ 16 }
+    requires few { length (distinct query.now) ≤ MAX_KEYWORDS }
     ensures { IfOk result (λ f. f ≡ found most corpus.now hits query.now pick) }
 {
     let documents = corpus.as_slice();
