@@ -1,8 +1,7 @@
 //! Sums of products of ciphertexts and plain polynomials.
 
 ghost use Rattle.std.specs.Prelude.{ℕ, ℤ, List, ◌≡◌, ◌+◌, ◌<◌, length, IfOk};
-ghost use Rattle.co_math.specs.Parameters.{q};
-ghost use Rattle.co_math.specs.Coefficients.{IsDegree, residues_of};
+ghost use Rattle.co_math.specs.Coefficients.{IsDegree};
 ghost use Rattle.co_math.specs.Polynomials.{IsWrapped, plus, unit};
 ghost use Rattle.co_ring.specs.Product_sums.{most_products};
 ghost use Rattle.co_rns.specs.Spectra.{IsPairSumOf, IsSpectrumOf, spectrum_degree};
@@ -13,7 +12,7 @@ ghost use Rattle.co_spectra.specs.Sums.{IsCipherSumOf};
 use crate::values::CipherSpectrum;
 use co_bfv::Cipher;
 use co_ring::{Degree, MOST_PRODUCTS};
-use co_rns::{Pair, PairSpectrum, PairSum, Tables, from_spectrum, small_to_spectrum};
+use co_rns::{PairSpectrum, PairSum, Tables, small_to_spectrum};
 use std::alloc::{AllocError, Global};
 use std::marker::Model;
 
@@ -83,26 +82,6 @@ fn add_sum(sum: &mut PairSum, other: &PairSum, room: &mut PairSpectrum, one: &Pa
 {
     other.reduce(room);
     sum.add_product(one, room);
-}
-
-/// The polynomial whose values a sum has.
-fn polynomial(
-    alloc: Global,
-    tables: &Tables,
-    sum: &PairSum,
-    room: &mut PairSpectrum,
-) -> Result<Pair, AllocError>
-    requires sum_degree { length sum.now.first ≡ tables.now }
-    requires room_degree { spectrum_degree room.old ≡ tables.now }
-    ensures value { IfOk result (λ p. (f : ℤ → ℤ) → IsPairSumOf tables.now f sum.now
-        → p ≡ residues_of q tables.now f) }
-    ensures degree { IfOk result (λ p. length p ≡ tables.now) }
-    ensures room_degree { spectrum_degree room.new ≡ tables.now }
-{
-    sum.reduce(room);
-    let mut poly = Pair::zero(alloc, tables.degree())?;
-    from_spectrum(tables, room, &mut poly);
-    Ok(poly)
 }
 
 impl CipherSum {
@@ -179,8 +158,8 @@ impl CipherSum {
         ensures degree { IfOk result (λ r. ciphertext_degree r ≡ self.now.degree) }
     {
         let mut room = PairSpectrum::zero(alloc, tables.degree())?;
-        let c0 = polynomial(alloc, tables, &self.c0, &mut room)?;
-        let c1 = polynomial(alloc, tables, &self.c1, &mut room)?;
+        let c0 = self.c0.polynomial(alloc, tables, &mut room)?;
+        let c1 = self.c1.polynomial(alloc, tables, &mut room)?;
         Ok(Cipher::from_parts(c0, c1))
     }
 }
