@@ -6,8 +6,7 @@ ghost use Rattle.co_ring.specs.declared.moduli.Modulus.TheVariants.{Plain};
 ghost use Rattle.co_pir.specs.Tables as tables;
 ghost use Rattle.co_pir.specs.Units.{unit_count};
 ghost use Rattle.co_pir.specs.Units as units;
-ghost use Rattle.co_pir.specs.Tables.{IsTable, chunk_bytes, payload_at};
-ghost use Rattle.co_pir.specs.declared.contents.TheConstants.{MOST_ROW_CHUNKS};
+ghost use Rattle.co_pir.specs.Tables.{IsTable, chunk_bytes, most_row_chunks, payload_at};
 
 use co_link::Bytes;
 use co_ring::{Degree, Poly};
@@ -32,8 +31,7 @@ pub(crate) struct Contents {
 
 impl Model for Contents {
     ghost use Rattle.std.specs.Prelude.{◌≤◌};
-    ghost use Rattle.co_pir.specs.Tables.{Table, IsTable};
-    ghost use Rattle.co_pir.specs.declared.contents.TheConstants.{MOST_ROW_CHUNKS};
+    ghost use Rattle.co_pir.specs.Tables.{Table, IsTable, most_row_chunks};
 
     ghost Value = { Table };
 
@@ -49,7 +47,7 @@ impl Model for Contents {
       rows = t.rows;
       chunks = t.chunks;
       bytes = t.bytes;
-    }) × (t.chunks ≤ MOST_ROW_CHUNKS) };
+    }) × (t.chunks ≤ most_row_chunks) };
 }
 
 impl Contents {
@@ -57,7 +55,7 @@ impl Contents {
     pub(crate) fn new(degree: Degree, rows: u32, chunks: u32, bytes: Bytes) -> Contents
         requires some { 1 ≤ rows }
         requires few { rows ≤ degree }
-        requires short { chunks ≤ MOST_ROW_CHUNKS }
+        requires short { chunks ≤ most_row_chunks }
         requires whole { length bytes ≡ rows * (chunks * (2 * degree)) }
         requires below { AreBelow 256 bytes }
         ensures { result ≡ record { degree = degree; rows = rows; chunks = chunks; bytes = bytes } }

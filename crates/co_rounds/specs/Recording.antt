@@ -22,6 +22,7 @@ use Rattle.co_library.specs.Libraries.{Parts, IsLibrary}
 use Rattle.co_library.specs.Refusals.{IsBuilt}
 use Rattle.co_rounds.specs.Serving.{bucket_table, bin_table}
 use Rattle.co_rounds.specs.Placing.{document_row, document_start}
+use Rattle.co_pack.specs.declared.records.TheConstants.{RECORD_BYTES}
 
 -- ---- what a library shows
 
@@ -39,7 +40,7 @@ is_within_bins s p = nat_lt p.bin s.bins && nat_le (p.offset + p.length) (s.chun
 pub record ShowsDocument (l : Parts) (bucket number : ℕ) (document : Document) : Type 0 where
   pub row : document_row l.shape bucket number < l.shape.rows
   pub place : Place
-  pub read : record_of (take 256 (drop (document_start l.shape bucket number)
+  pub read : record_of (take RECORD_BYTES (drop (document_start l.shape bucket number)
       (row_bytes (bucket_table l bucket) (document_row l.shape bucket number))))
       ≡ Ok (record { document = number; place = place; title = document.title })
   pub within : is_within_bins l.shape place ≡ true

@@ -13,6 +13,7 @@ use Rattle.co_matvec.specs.Weights.{WeightMatrix}
 use Rattle.co_pir.specs.Tables.{Table, piece}
 use Rattle.co_pir.specs.Replies.{retrieved}
 use Rattle.co_library.specs.Libraries.{Parts}
+use Rattle.co_pack.specs.declared.records.TheConstants.{RECORD_BYTES}
 
 -- the weights, for scores
 abbrev pub weights_of : Parts → WeightMatrix
@@ -23,9 +24,9 @@ weights_of l = record {
   entries = l.weights;
 }
 
--- the 256 bytes of a document's record
+-- the bytes of a document's record
 abbrev pub record_at : List ℕ → ℕ → List ℕ
-record_at records document = piece 256 document records
+record_at records document = piece RECORD_BYTES document records
 
 -- the documents that a bucket lists
 abbrev pub bucket_documents : Numbers → ℕ → List ℕ

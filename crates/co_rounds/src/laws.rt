@@ -45,6 +45,7 @@ ghost use Rattle.co_rounds.specs.Scoring.{AskScores, scores_read};
 ghost use Rattle.co_rounds.specs.Placing.{document_row, document_start};
 ghost use Rattle.co_rounds.specs.Recording.{IsLibraryFor, ShowsDocument, CanBeOpened, AsksFor, bytes_of, bucket_replies};
 ghost use Rattle.co_text.specs.declared.limits.TheConstants.{MAX_KEYWORDS};
+ghost use Rattle.co_pack.specs.declared.records.TheConstants.{RECORD_BYTES};
 
 /// The entries of a library are entries of its weight matrix. The weight of a term there is that of
 /// the plain search, by the term's number.
@@ -231,7 +232,7 @@ pub fn records_are_read()
         → bucket < bucket_count l.shape.hits
         → AsksFor l.shape.degree secret (ciphertext_at queries bucket) l.shape.rows
         (document_row l.shape bucket number)
-        → record_of (take 256 (drop (document_start l.shape bucket number)
+        → record_of (take RECORD_BYTES (drop (document_start l.shape bucket number)
         (bytes_of (opened_reply secret (bucket_replies l.shape replies bucket)))))
         ≡ Ok (record { document = number; place = shown.place; title = document.title }) }
 {}
