@@ -69,6 +69,7 @@ impl Contents {
         }
     }
 
+    /// The degree of the payload polynomials.
     pub(crate) fn degree(&self) -> Degree
         ensures value { result ≡ self.now.degree }
         ensures table { IsTable self.now }
@@ -76,12 +77,14 @@ impl Contents {
         self.degree
     }
 
+    /// How many rows there are.
     pub(crate) fn rows(&self) -> u32
         ensures { result ≡ self.now.rows }
     {
         self.rows
     }
 
+    /// How many chunks a row has.
     pub(crate) fn chunks(&self) -> u32
         ensures { result ≡ self.now.chunks }
     {
