@@ -5,6 +5,7 @@ use Rattle.std.proofs.Math.Seq.{take-append_seam}
 use Rattle.std.proofs.lemmas.List.{length-set, get_or-set_other, get_or-set_same}
 use Rattle.co_bfv.specs.Ciphertexts.{Ciphertext, ciphertext_degree, ciphertext_sum}
 use Rattle.co_bfv.specs.Totals.{no_ciphertext, ciphertext_at}
+
 -- the first sums have theirs, the others are as they were
 pub record AreReached (done : ℕ) (before others now : List Ciphertext) : Type 0 where
   pub count : length now ≡ length before
