@@ -35,7 +35,8 @@ pub record AreZeros (n : ℕ) (sums : List ℕ) : Type 0 where
 -- value by value, a * b was added, and nothing was reduced
 pub record AreSumsWith (old a b new : List ℕ) : Type 0 where
   pub len : length new ≡ length old
-  pub each : (k : ℕ) → k < length old → slice_index new k ≡ slice_index old k + slice_index a k * slice_index b k
+  pub each : (k : ℕ) → k < length old → slice_index new k
+      ≡ slice_index old k + slice_index a k * slice_index b k
 
 -- value by value, the sums modulo m
 pub record AreReduced (m : ℕ) (sums values : List ℕ) : Type 0 where
@@ -57,4 +58,5 @@ pub record IsSumWith (old : Sums) (a b : List ℕ) (new : Sums) : Type 0 where
 -- modulo m, the sums are the values of the polynomial f at psi ^ (2k + 1)
 pub record AreSumsOf (m n : ℕ) (f : ℤ → ℤ) (sums : List ℕ) : Type 0 where
   pub len : length sums ≡ n
-  pub each : (k : ℕ) → k < n → Congruent m (pos (slice_index sums k)) (value_at n f (power (pos (root m n)) (2 * k + 1)))
+  pub each : (k : ℕ) → k < n → Congruent m (pos (slice_index sums k))
+      (value_at n f (power (pos (root m n)) (2 * k + 1)))

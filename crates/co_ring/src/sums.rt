@@ -7,7 +7,7 @@ ghost use Rattle.co_ring.specs.Product_sums.{AreReduced, IsNoSum, IsSumWith, mos
 use crate::degrees::Degree;
 use crate::moduli::Modulus;
 use crate::spectra::Spectrum;
-use co_transform::sums::{clear, gather, reduce_sums, reducer_of};
+use co_transform::{clear, gather, reduce_sums, reducer_of};
 use std::alloc::{AllocError, Global};
 use std::marker::Model;
 

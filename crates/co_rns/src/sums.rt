@@ -1,10 +1,14 @@
 //! Sums of products of polynomials modulo q, by their values, that are reduced once.
 
-ghost use Rattle.std.specs.Prelude.{◌≡◌, ◌<◌, length, IfOk};
+ghost use Rattle.std.specs.Prelude.{ℤ, ◌≡◌, ◌<◌, length, IfOk};
+ghost use Rattle.co_math.specs.Coefficients.{residues_of};
+ghost use Rattle.co_math.specs.Parameters.{q};
 ghost use Rattle.co_ring.specs.Product_sums.{most_products};
-ghost use Rattle.co_rns.specs.Spectra.{IsNoPairSum, IsPairSumWith, IsReducedPair, spectrum_degree};
+ghost use Rattle.co_rns.specs.Spectra.{IsNoPairSum, IsPairSumOf, IsPairSumWith, IsReducedPair};
+ghost use Rattle.co_rns.specs.Spectra.{spectrum_degree};
 
-use crate::spectra::PairSpectrum;
+use crate::pairs::Pair;
+use crate::spectra::{PairSpectrum, Tables, from_spectrum};
 use co_ring::{Degree, Modulus, ProductSum};
 use std::alloc::{AllocError, Global};
 use std::marker::Model;
@@ -64,5 +68,25 @@ impl PairSum {
     {
         self.first.reduce(&mut into.first);
         self.second.reduce(&mut into.second);
+    }
+
+    /// The polynomial whose values the sum has. The room is scratch.
+    pub fn polynomial(
+        &self,
+        alloc: Global,
+        tables: &Tables,
+        room: &mut PairSpectrum,
+    ) -> Result<Pair, AllocError>
+        requires sum_degree { length self.now.first ≡ tables.now }
+        requires room_degree { spectrum_degree room.old ≡ tables.now }
+        ensures value { IfOk result (λ p. (f : ℤ → ℤ) → IsPairSumOf tables.now f self.now
+            → p ≡ residues_of q tables.now f) }
+        ensures degree { IfOk result (λ p. length p ≡ tables.now) }
+        ensures room_degree { spectrum_degree room.new ≡ tables.now }
+    {
+        self.reduce(room);
+        let mut poly = Pair::zero(alloc, tables.degree())?;
+        from_spectrum(tables, room, &mut poly);
+        Ok(poly)
     }
 }

@@ -1,14 +1,13 @@
 //! Sums of the products of digits and a key's polynomials, by values.
 
-ghost use Rattle.std.specs.Prelude.{ℕ, ℤ, List, ◌≡◌, length, IfOk};
+ghost use Rattle.std.specs.Prelude.{ℕ, List, ◌≡◌, length, IfOk};
 ghost use Rattle.co_math.specs.Parameters.{q};
 ghost use Rattle.co_math.specs.Coefficients.{residues_of};
-ghost use Rattle.co_rns.specs.Spectra.{IsPairSumOf, spectrum_degree};
 ghost use Rattle.co_switch.specs.Keys.{AreOfDegree, AreSpectra};
 ghost use Rattle.co_switch.specs.Switches.{digit_sum};
 
 use co_math::parameters::DIGIT_COUNT;
-use co_rns::{Decomposition, Pair, PairSpectrum, PairSum, Tables, from_spectrum};
+use co_rns::{Decomposition, Pair, PairSpectrum, PairSum, Tables};
 use std::alloc::{AllocError, Global};
 
 /// The sums over the digits of a polynomial of the digit times a key's polynomial: for the first
@@ -43,27 +42,7 @@ pub fn digit_sums(
         sum0.add_product(&values, &values0[index as usize]);
         sum1.add_product(&values, &values1[index as usize]);
     }
-    let first = polynomial_of(alloc, tables, &sum0, &mut values)?;
-    let second = polynomial_of(alloc, tables, &sum1, &mut values)?;
+    let first = sum0.polynomial(alloc, tables, &mut values)?;
+    let second = sum1.polynomial(alloc, tables, &mut values)?;
     Ok((first, second))
-}
-
-/// The polynomial whose values a sum has.
-fn polynomial_of(
-    alloc: Global,
-    tables: &Tables,
-    sum: &PairSum,
-    values: &mut PairSpectrum,
-) -> Result<Pair, AllocError>
-    requires sum_degree { length sum.now.first ≡ tables.now }
-    requires values_degree { spectrum_degree values.old ≡ tables.now }
-    ensures value { IfOk result (λ p. (f : ℤ → ℤ) → IsPairSumOf tables.now f sum.now
-        → p ≡ residues_of q tables.now f) }
-    ensures degree { IfOk result (λ p. length p ≡ tables.now) }
-    ensures values_degree { spectrum_degree values.new ≡ tables.now }
-{
-    sum.reduce(values);
-    let mut poly = Pair::zero(alloc, tables.degree())?;
-    from_spectrum(tables, values, &mut poly);
-    Ok(poly)
 }
