@@ -5,7 +5,7 @@ ghost use Rattle.co_http.specs.Conn.{held, unread, kept, cannot_write, first_fau
 ghost use Rattle.co_http.specs.ShortText.{text_of};
 ghost use Rattle.co_http.specs.Responses.{is_status, Writes, WriteCause};
 ghost use Rattle.co_serving.specs.Conversation.{Serves, closing_end, status_of, closing_status, length_text, response_at};
-ghost use Rattle.co_serving.specs.Reading.{ServesMessage};
+ghost use Rattle.co_serving.specs.Reading.{ServesMessage, HaveCauses};
 ghost use Rattle.co_serving.specs.declared.ended.Ended.TheVariants.{ReadFault, WriteFault};
 
 use crate::reading::read_message;
@@ -124,11 +124,8 @@ pub fn serve_by<C: Duplex, A: Answering>(alloc: Global, answering: &mut A, line:
     ensures serves { IfSome (C.left line.old) (λ input. IfSome (C.put_so_far line.old) (λ put.
         Serves A.wanted A.answers answering.old answering.new input (C.left line.new) put (C.put_so_far line.new) result.requests result.ended)) }
     ensures requests { result.requests ≤ 1000 }
-    ensures read_fault { result.ended ≡ ReadFault → Rose (C.Source.faults line.old) (C.Source.faults line.new) }
-    ensures write_fault { result.ended ≡ WriteFault → Rose (C.Sink.faults line.old) (C.Sink.faults line.new) }
+    ensures causes { HaveCauses result.ended (C.Source.faults line.old) (C.Source.faults line.new) (C.Sink.faults line.old) (C.Sink.faults line.new) }
     ensures beside { C.Duplex.beside line.new ≡ C.Duplex.beside line.old }
-    ensures takes_later { C.Source.faults line.old ≤ C.Source.faults line.new }
-    ensures puts_later { C.Sink.faults line.old ≤ C.Sink.faults line.new }
 {
     let Ok(mut conn) = Conn::new(alloc) else {
         return Served {
