@@ -225,6 +225,7 @@ pub fn rank<K: Link, R: Rng>(
         return Err(SearchFault::OutOfMemory);
     };
     let shape = reader.tested().shape();
+    let _ = shape.degree();
     let blocks = shape.document_blocks();
     let body = match ask_ciphers(alloc, link, reader, Target::Score, queries, blocks) {
         Ok(body) => body,
