@@ -45,9 +45,7 @@ pub fn serve_connection<C: Duplex, R: Threads + Sync, G: Gate, L>(
         ensures answer { IsAnswer loaded.now session.old request.now result }
         ensures keys { Holds loaded.now.shape session.old request.now result session.new }
         ensures kept { AreKept loaded.now.shape session.new }
-    {
-        session.step(rt, alloc, loaded, request, workers, gate, steps)
-    };
+    { session.step(rt, alloc, loaded, request, workers, gate, steps) };
     let mut service = SessionService::new(alloc, loaded, workers, step);
     serve_by(alloc, &mut service, line)
 }

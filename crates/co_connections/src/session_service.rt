@@ -82,10 +82,10 @@ impl<F: FnMut(&mut Session, &Loaded, &Request, u32) -> Answer> Answering for Ses
 
     // Each call of `step` is a step of the session.
     ghost may_answer = { λ s. ((f : F) (keys : _) (loaded : _) (request : _) (workers : _)
-            → (1 ≤ workers) × (workers ≤ 64) → AreKept loaded.now.shape keys.now → F.pre f keys loaded request workers)
+        → (1 ≤ workers) × (workers ≤ 64) → AreKept loaded.now.shape keys.now → F.pre f keys loaded request workers)
         × ((f g : F) (keys kept : _) (loaded : _) (request : _) (workers : _) (answer : _)
-            → (1 ≤ workers) × (workers ≤ 64) → AreKept loaded.now.shape keys.now → F.step f keys loaded request workers answer kept g
-            → IsAnswer loaded.now keys.now request.now answer × Holds loaded.now.shape keys.now request.now answer kept.now × AreKept loaded.now.shape kept.now) };
+        → (1 ≤ workers) × (workers ≤ 64) → AreKept loaded.now.shape keys.now → F.step f keys loaded request workers answer kept g
+        → IsAnswer loaded.now keys.now request.now answer × Holds loaded.now.shape keys.now request.now answer kept.now × AreKept loaded.now.shape kept.now) };
 
     fn answer(&mut self, request: &Request) -> Reply {
         let answer = (self.step)(&mut self.session, self.loaded, request, self.workers);
