@@ -1,5 +1,5 @@
 //! What answers the requests of one connection.
-ghost use Rattle.std.specs.Prelude.{◌≡◌, ℕ, ⊤, IsTrue, length};
+ghost use Rattle.std.specs.Prelude.{◌≡◌, ℕ, ⊤, IsTrue, length, []};
 ghost use Rattle.co_link.specs.declared.messages.Target.{Target};
 ghost use Rattle.co_link.specs.declared.messages.Request.{Request};
 ghost use Rattle.co_link.specs.declared.messages.Reply.{Reply};
@@ -27,7 +27,8 @@ pub trait Service: Lengths {
     fn step(&mut self, request: &Request) -> Reply
         requires { length request.now.body ≡ Self.wanted self.old request.now.target }
         ensures step { steps self.old request.now result self.new }
-        ensures status { IsTrue (is_reply_status result.status) };
+        ensures status { IsTrue (is_reply_status result.status) }
+        ensures empty { result.status ≡ 503 → result.body ≡ [] };
 }
 
 /// What answers the requests of one connection from a state on in which it may.
@@ -39,7 +40,7 @@ pub trait Answering: Lengths {
     ghost may_answer: { Self → Type 0 };
 
     /// Answers a request whose body has that length. The reply is whole: its status is 200, 400, 409
-    /// or, for want of memory and with no body, 503. It may answer again.
+    /// or, for want of memory, 503. It may answer again.
     fn answer(&mut self, request: &Request) -> Reply
         requires length { length request.now.body ≡ Self.wanted self.old request.now.target }
         requires ready { may_answer self.old }
