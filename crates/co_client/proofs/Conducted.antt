@@ -1,6 +1,6 @@
 -- A search round by round, by what its calls give: what it tells where one of them gives nothing, and at its end.
-use Rattle.std.proofs.Common.{◌≡◌, ℕ, zero, suc, ◌*◌, ◌<◌, ◌≤◌, refl, sym, ap, subst, ◌∙◌, arith, Bool, true, false, cond, eqb, ◌-◌, List, [], ◌∷◌, length, map, Option, Some, None, Result, Ok, Err}
-use Rattle.std.specs.Prelude.{All, IfErr, slice_get, slice_index_or}
+use Rattle.std.proofs.Common.{◌≡◌, ℕ, zero, suc, ◌*◌, ◌<◌, ◌≤◌, refl, sym, ap, subst, ◌∙◌, arith, Bool, true, false, cond, eqb, ◌-◌, List, [], ◌∷◌, length, map, Option, Some, None, Ok, Err}
+use Rattle.std.specs.Prelude.{All, slice_get, slice_index_or}
 use Rattle.std.proofs.lemmas.Option.{none-some, same_Some}
 use Rattle.std.proofs.lemmas.List.Elements.{All-head, All-tail}
 use Rattle.std.proofs.lemmas.List.{length-map}
@@ -25,11 +25,11 @@ use Rattle.co_rounds.specs.Asked.{AreKeywordMessages}
 use Rattle.co_rounds.specs.Placing.{rows_asked}
 use Rattle.co_rounds.specs.Recording.{is_within_bins}
 use Rattle.co_client.specs.declared.fault.SearchFault.{SearchFault}
-use Rattle.co_client.specs.declared.fault.SearchFault.TheVariants.{TooManyKeywords, BadPublic, Test, NoPlacement, Link, Refused, BadReply, WrongRecord, BadPlace, NotByte, BadRecord, OutOfMemory}
+use Rattle.co_client.specs.declared.fault.SearchFault.TheVariants.{OutOfMemory}
 use Rattle.co_client.specs.declared.publishing.Published.{Published}
 use Rattle.co_client.specs.declared.placing.Placing.{Placing}
 use Rattle.co_client.specs.declared.placing.Placing.TheVariants.{Placed, Unplaced}
-use Rattle.co_client.specs.Causes.{Search, IsCause, IsCauseUntold, secret_of}
+use Rattle.co_client.specs.Causes.{Search, secret_of}
 use Rattle.co_client.specs.Faults.{IsReadAs}
 use Rattle.co_client.specs.Telling.{Told}
 use Rattle.co_client.specs.Published.{Consults, PublicFails}
@@ -50,25 +50,6 @@ use Rattle.co_client.proofs.Finishes.{Scored, scored-of, scored-told, records-to
 -- a failed link of one call, as that of a search
 as-found : {T : Type 0} (before now : ℕ) (is : Option LinkCall) (call : LinkCall) (fault : SearchFault) → LinkFails {T = T} before now is call (Err fault) → LinkFails {T = Found} before now is call (Err fault)
 as-found {T} before now is call fault h = fails-as {A = T} {B = Found} before now is call (Err fault) fault h refl
-
--- what is told has its cause where nothing is told, too
-untold-cause : (run : Search) (es : List Exchange) (fault : SearchFault) → IsCause run es fault → IsCauseUntold run fault
-untold-cause run es (TooManyKeywords found) h = (h.0, h.1)
-untold-cause run es Link h = h.rose
-untold-cause run es (Test fault) h = (h.shape, h.fails)
-untold-cause run es (BadPublic place) h = tt
-untold-cause run es (NoPlacement documents buckets) h = tt
-untold-cause run es (Refused target status) h = tt
-untold-cause run es (BadReply target place) h = tt
-untold-cause run es (WrongRecord wanted found) h = tt
-untold-cause run es (BadPlace document) h = tt
-untold-cause run es (NotByte target reply place) h = tt
-untold-cause run es (BadRecord document place) h = tt
-untold-cause run es OutOfMemory h = tt
-
-pub untold-of : (run : Search) (was now : Option (List Exchange)) (result : Result Found SearchFault) (left : Stream) → Told run was now result left → IfErr result (IsCauseUntold run)
-untold-of run was now (Ok f) left h = tt
-untold-of run was now (Err fault) left h = untold-cause run h.exchanges fault h.tells.refused
 
 -- ---- placed hits
 

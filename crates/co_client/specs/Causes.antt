@@ -1,4 +1,4 @@
--- When a search refuses, and what it read where it does not: by its exchanges, over any link that tells them.
+-- When a search refuses, and what it read where it does not: by its exchanges, over any link.
 use Rattle.std.specs.Prelude.{◌≡◌, ◌≢◌, ℕ, ℤ, ◌*◌, ◌<◌, min, List, [], ◌∷◌, ◌++◌, length, map, take, slice_get, Option, Some, Result, Ok, Err}
 use Rattle.rand_core.specs.Stream.{Stream}
 use Rattle.co_link.specs.Causes.{Rose}
@@ -173,7 +173,7 @@ pub record HasBadText (r : Search) (es : List Exchange) (fault : SearchFault) : 
   pub read : ReadsRecords r es shape terms hits (Ok records)
   pub picked : ReadsPicked r es shape hits records (Err fault)
 
--- the cause of each refusal, where the link tells its exchanges; want of memory is free
+-- the cause of each refusal; want of memory is free
 abbrev pub IsCause : Search → List Exchange → SearchFault → Type 0
 IsCause r es (TooManyKeywords found) = (16 < length (distinct r.query)) × (found ≡ min (length (distinct r.query)) 4294967295) × (es ≡ [])
 IsCause r es (BadPublic place) = HasBadPublic es place
@@ -191,13 +191,6 @@ IsCause r es (NotByte Score reply place) = ⊥
 IsCause r es (NotByte Meta reply place) = HasBadRecord r es (NotByte Meta reply place)
 IsCause r es (BadRecord document place) = HasBadRecord r es (BadRecord document place)
 IsCause r es OutOfMemory = Unit {0}
-
--- the cause where the link tells nothing of its exchanges
-abbrev pub IsCauseUntold : Search → SearchFault → Type 0
-IsCauseUntold r (TooManyKeywords found) = (16 < length (distinct r.query)) × (found ≡ min (length (distinct r.query)) 4294967295)
-IsCauseUntold r Link = Rose r.before r.now
-IsCauseUntold r (Test fault) = (s : Numbers) × (test_of s ≡ Err fault)
-IsCauseUntold r fault = Unit {0}
 
 -- ---- what is asked
 

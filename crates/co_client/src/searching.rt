@@ -11,7 +11,7 @@ ghost use Rattle.co_library.specs.Libraries.{Parts};
 ghost use Rattle.co_rounds.specs.Honest.{AreHonest};
 ghost use Rattle.co_rounds.specs.Plans.{made, Extends, FollowsPlan, IsWholePlan};
 ghost use Rattle.co_rounds.specs.Recording.{IsLibraryFor};
-ghost use Rattle.co_client.specs.Causes.{Search, Publishes, IsRead, IsCause, IsCauseUntold, IsAnswered, Asks};
+ghost use Rattle.co_client.specs.Causes.{Search, Publishes, IsRead, IsCause, IsAnswered, Asks};
 ghost use Rattle.co_client.specs.Going.{GoesOn};
 ghost use Rattle.co_client.specs.Earlier.{EndsFirst};
 ghost use Rattle.co_client.specs.Plain.{AnswersPlainly};
@@ -174,6 +174,8 @@ pub fn search<K: Link, R: Rng>(
 ) -> Result<Found, SearchFault>
     requires pick { (1 ≤ pick) × (pick ≤ 64) }
     requires ready { K.is_ready link.old ≡ true }
+    // Over any link, one that doesn't tell its exchanges too: all that the search tells of those that it made.
+    ensures told { Told (record { query = terms query.now; pick = pick; stream = R.stream rng.old; before = K.faults link.old; now = K.faults link.new; last_failed = K.last_failed link.new }) (K.exchanges link.old) (K.exchanges link.new) result (R.stream rng.new) }
     // Over exchanges that are honest to the library of a corpus: the plain answer exactly where its hits can be placed.
     ensures plain { (es : List Exchange) → made (K.exchanges link.old) (K.exchanges link.new) ≡ Some es
         → (documents : List Document) (settings : Settings) (l : Parts) (held : Option (List ℕ)) → IsLibraryFor documents settings l → AreHonest l held es
@@ -191,7 +193,6 @@ pub fn search<K: Link, R: Rng>(
         → IfOk result (IsRead (record { query = terms query.now; pick = pick; stream = R.stream rng.old; before = K.faults link.old; now = K.faults link.new; last_failed = K.last_failed link.new }) es) }
     ensures refused { (es : List Exchange) → made (K.exchanges link.old) (K.exchanges link.new) ≡ Some es
         → IfErr result (IsCause (record { query = terms query.now; pick = pick; stream = R.stream rng.old; before = K.faults link.old; now = K.faults link.new; last_failed = K.last_failed link.new }) es) }
-    ensures untold { IfErr result (IsCauseUntold (record { query = terms query.now; pick = pick; stream = R.stream rng.old; before = K.faults link.old; now = K.faults link.new; last_failed = K.last_failed link.new })) }
     // It ends at the first cause: whatever it answers, it went past none of another refusal.
     ensures earlier { (es : List Exchange) → made (K.exchanges link.old) (K.exchanges link.new) ≡ Some es → EndsFirst (record { query = terms query.now; pick = pick; stream = R.stream rng.old; before = K.faults link.old; now = K.faults link.new; last_failed = K.last_failed link.new }) es result }
     // Any other answer than too many keywords, or want of memory, comes only for few.

@@ -1,5 +1,5 @@
 //! What answers the requests of one connection.
-ghost use Rattle.std.specs.Prelude.{◌≡◌, ℕ, IsTrue, length};
+ghost use Rattle.std.specs.Prelude.{◌≡◌, ℕ, IsTrue, length, []};
 ghost use Rattle.co_link.specs.declared.messages.Target.{Target};
 ghost use Rattle.co_link.specs.declared.messages.Request.{Request};
 ghost use Rattle.co_link.specs.declared.messages.Reply.{Reply};
@@ -27,5 +27,6 @@ pub trait Service: Lengths {
     fn step(&mut self, request: &Request) -> Reply
         requires { length request.now.body ≡ Self.wanted self.old request.now.target }
         ensures step { steps self.old request.now result self.new }
-        ensures status { IsTrue (is_reply_status result.status) };
+        ensures status { IsTrue (is_reply_status result.status) }
+        ensures empty { result.status ≡ 503 → result.body ≡ [] };
 }

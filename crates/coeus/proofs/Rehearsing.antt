@@ -238,7 +238,7 @@ search_stops : (p : RehearseCommand) (library : Parts) (place : ℕ) (was left i
     → AreTriedFor p library (take place (queries_of p.number)) was left tally
     → JudgeCause (words_asked p (place + 1) (slice_index_or (queries_of p.number) place [])) library left is (Unsearched fault) → StopCause p was is (Unsearched fault)
 search_stops p library place was left is tally (searching.NoPlacement documents buckets) within published a cause = absurd cause
-search_stops p library place was left is tally searching.Link within published a cause = absurd (omega (arith, cause.refused.rose))
+search_stops p library place was left is tally searching.Link within published a cause = absurd (omega (arith, cause.tells.refused.rose))
 search_stops p library place was left is tally fault within published a cause = stopped_at p library place was left is tally fault within published a cause
 
 pub not_tried : (p : RehearseCommand) (library : Parts) (place : ℕ) (was left is : Stream) (tally : Tally) (refusal : Refusal) → place < 8 → IsMadeLibrary p library

@@ -1,6 +1,6 @@
 -- What `local` leaves and says, from what its search gave.
 use Rattle.std.proofs.Common.{◌≡◌, ◌⊎◌, ◌<◌, ℕ, List, [], ◌∷◌, length, Option, Some, None, Ok, Err, refl, sym, ap, subst, ◌∙◌, inl, inr, arith}
-use Rattle.std.specs.Prelude.{Result, IsSome, IfOk, IfErr}
+use Rattle.std.specs.Prelude.{Result, IsSome}
 use Rattle.std.proofs.lemmas.List.{length-map}
 use Rattle.rand_core.specs.Stream.{Stream}
 use Rattle.co_link.specs.Causes.{Rose}
@@ -9,7 +9,7 @@ use Rattle.co_link.specs.declared.files.FileKind.TheVariants.{Read}
 use Rattle.co_link.specs.declared.messages.Exchange.{Exchange}
 use Rattle.co_noise.specs.Shapes.{Numbers}
 use Rattle.co_noise.specs.Bounds.{test_of}
-use Rattle.co_text.specs.Terms.{terms, distinct}
+use Rattle.co_text.specs.Terms.{terms}
 use Rattle.co_text.specs.declared.found.Found.{Found}
 use Rattle.co_text.specs.declared.ranks.Ranked.{Ranked}
 use Rattle.co_corpus.specs.declared.documents.Document.{Document}
@@ -21,12 +21,11 @@ use Rattle.co_library.specs.Files.{library_in, library_bytes}
 use Rattle.co_library.proofs.FileFormat.{is_read_again}
 use Rattle.co_library.proofs.Ascending.{file_few}
 use Rattle.co_rounds.specs.Honest.{AreHonest}
-use Rattle.co_rounds.specs.Plans.{made, FollowsPlan, IsWholePlan}
+use Rattle.co_rounds.specs.Plans.{made}
 use Rattle.co_rounds.specs.Placing.{choices_of, CanBePlaced, IsUnplaced}
 use Rattle.co_rounds.specs.Recording.{IsLibraryFor}
-use Rattle.co_client.specs.Causes.{Search, Publishes, IsRead, IsCause, IsAnswered, Asks}
-use Rattle.co_client.specs.Going.{GoesOn}
-use Rattle.co_client.specs.Faults.{IsForFew}
+use Rattle.co_client.specs.Causes.{Search, IsCause}
+use Rattle.co_client.specs.Telling.{Tells, Told}
 use Rattle.co_client.specs.Plain.{AnswersPlainly, plain_hits}
 use Rattle.co_client.specs.declared.fault.SearchFault.{SearchFault}
 use Rattle.co_client.specs.declared.fault.SearchFault.TheVariants as searching
@@ -40,6 +39,8 @@ use Rattle.coeus.specs.Refusals.{status_of, status_of_refused}
 use Rattle.coeus.specs.Imports.{HasImport}
 use Rattle.coeus.specs.Locals.{HasLibraryFile, CanBeServed, OpenCause, search_for, IsSearched, Searched, HasFound, FindCause, Finds, IsShown, LocalAnswer, LocalCause, LocalDue}
 use Rattle.coeus.specs.Runs.{Uses, Answered, RefusedBy}
+use Rattle.co_client.proofs.Told.{told-at}
+use Rattle.co_client.proofs.Tells_plainly.{tells_plainly}
 use Rattle.coeus.proofs.Drawing.{is_drawn}
 use Rattle.coeus.proofs.Outcomes.{differ, same_value}
 
@@ -85,37 +86,18 @@ for_text text pick random = record { query = terms text; pick = pick; stream = r
 
 -- of a new link all exchanges are those of the search
 pub searched_over : (p : LocalWords) (library : Parts) (was is : Stream) (result : Result Found SearchFault) (text : List ℕ) (before now : List Exchange)
-    → text ≡ joined p.query → before ≡ [] → IsLibrary library → AreHonest library None now → IsForFew (length (distinct (terms text))) result
-    → ((es : List Exchange) → made (Some before) (Some now) ≡ Some es → FollowsPlan es)
-    → ((es : List Exchange) → made (Some before) (Some now) ≡ Some es → IsAnswered result → IsWholePlan es)
-    → ((es : List Exchange) → made (Some before) (Some now) ≡ Some es → GoesOn (for_text text p.pick was) es)
-    → ((es : List Exchange) → made (Some before) (Some now) ≡ Some es → IfOk result (IsRead (for_text text p.pick was) es))
-    → ((es : List Exchange) → made (Some before) (Some now) ≡ Some es → IfErr result (IsCause (for_text text p.pick was) es))
-    → ((es : List Exchange) → made (Some before) (Some now) ≡ Some es → (s : Numbers) (ts : List (List ℕ)) → Publishes es s ts → test_of s ≡ Ok s
-    → Asks (for_text text p.pick was) es s ts result is)
-    → ((es : List Exchange) → made (Some before) (Some now) ≡ Some es → (documents : List Document) (settings : Settings) (l : Parts) (held : Option (List ℕ))
-    → IsLibraryFor documents settings l → AreHonest l held es → AnswersPlainly documents settings l (terms text) p.pick result)
+    → text ≡ joined p.query → before ≡ [] → IsLibrary library → AreHonest library None now → Told (for_text text p.pick was) (Some before) (Some now) result is
     → IsSearched p library was is result
-searched_over p library was is result text before now same new good honest few planned whole going read refused asked plain =
+searched_over p library was is result text before now same new good honest told =
     let all : made (Some before) (Some now) ≡ Some now = ap (λ (es : List Exchange). made (Some es) (Some now)) new in
-    let goes = subst (λ (t : List ℕ). GoesOn (for_text t p.pick was) now) same (going now all) in
-    let reads = subst (λ (t : List ℕ). IfOk result (IsRead (for_text t p.pick was) now)) same (read now all) in
-    let refuses = subst (λ (t : List ℕ). IfErr result (IsCause (for_text t p.pick was) now)) same (refused now all) in
-    let asks : (s : Numbers) (ts : List (List ℕ)) → Publishes now s ts → test_of s ≡ Ok s → Asks (search_for p was) now s ts result is =
-    λ s ts publishes passes. subst (λ (t : List ℕ). Asks (for_text t p.pick was) now s ts result is) same (asked now all s ts publishes passes) in
+    let tells : Tells (search_for p was) now result is =
+    subst (λ (t : List ℕ). Tells (for_text t p.pick was) now result is) same (told-at (for_text text p.pick was) (Some before) (Some now) result is told now all) in
     record {
-      few = subst (λ (t : List ℕ). IsForFew (length (distinct (terms t))) result) same few;
       exchanges = now;
       honest = honest;
-      planned = planned now all;
-      whole = whole now all;
-      going = goes;
-      read = reads;
-      refused = refuses;
-      asked = asks;
-      drawn = is_drawn p library was is result now good honest (whole now all) goes reads refuses asks;
-      plain = λ documents settings built. subst (λ (t : List ℕ). AnswersPlainly documents settings library (terms t) p.pick result) same
-          (plain now all documents settings library None built honest);
+      tells = tells;
+      drawn = is_drawn p library was is result now good honest tells.whole tells.goes tells.read tells.refused tells.asked;
+      plain = λ documents settings built. tells_plainly (search_for p was) now result is tells documents settings library None built honest;
     }
 
 -- a search in the library of a file
@@ -145,7 +127,7 @@ not_opened p was is random left refusal cause = absurd cause
 -- a link that never fails is no cause
 unsearched : (p : LocalWords) (was is : FilesState) (random left : Stream) (fault : SearchFault) → Searched p was.held random left (Err fault)
     → LocalCause p was is random left (Unsearched fault)
-unsearched p was is random left searching.Link s = absurd (omega (arith, s.search.refused.rose))
+unsearched p was is random left searching.Link s = absurd (omega (arith, s.search.tells.refused.rose))
 unsearched p was is random left fault s = s
 
 searched : (p : LocalWords) (was is : FilesState) (random left : Stream) (fault : SearchFault) → LocalCause p was is random left (Unsearched fault)
@@ -231,5 +213,5 @@ pub local_due : (p : LocalWords) (was is : Outside) (refusal : Refusal) → HasN
 local_due p was is Output kept r due d = absurd (kept.out r.took.rose)
 local_due p was is (Unsearched fault) kept r due d =
     let s = searched p was.files is.files was.devices.random is.devices.random fault r.cause in
-    search_due p was.files.held was.devices.random s.search.exchanges fault due d (s.plain d.documents d.settings d.library d.file) s.search.refused
+    search_due p was.files.held was.devices.random s.search.exchanges fault due d (s.plain d.documents d.settings d.library d.file) s.search.tells.refused
 local_due p was is refusal kept r due d = inr (open_due p.library was.files is.files d.documents d.settings d.library refusal d.file d.passes kept.files r.cause)

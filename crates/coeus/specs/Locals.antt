@@ -3,7 +3,6 @@ use Rattle.std.specs.Prelude.{◌≡◌, ◌≤◌, ℕ, List, length, Option, N
 use Rattle.rand_core.specs.Stream.{Stream}
 use Rattle.co_link.specs.Files.{Folder}
 use Rattle.co_link.specs.declared.messages.Exchange.{Exchange}
-use Rattle.co_noise.specs.Shapes.{Numbers}
 use Rattle.co_noise.specs.Bounds.{test_of}
 use Rattle.co_noise.specs.declared.testing.TestFault.{TestFault}
 use Rattle.co_text.specs.Terms.{terms}
@@ -18,12 +17,10 @@ use Rattle.co_library.specs.Libraries.{Parts}
 use Rattle.co_library.specs.Files.{library_in}
 use Rattle.co_rounds.specs.Honest.{AreHonest}
 use Rattle.co_rounds.specs.Asked.{Asked, IsAsked}
-use Rattle.co_rounds.specs.Plans.{FollowsPlan, IsWholePlan}
 use Rattle.co_rounds.specs.Placing.{CanBePlaced}
 use Rattle.co_rounds.specs.Recording.{IsLibraryFor}
-use Rattle.co_client.specs.Causes.{Search, Publishes, IsRead, IsCause, IsAnswered, Asks}
-use Rattle.co_client.specs.Going.{GoesOn}
-use Rattle.co_client.specs.Faults.{IsForFew}
+use Rattle.co_client.specs.Causes.{Search, IsAnswered}
+use Rattle.co_client.specs.Telling.{Tells}
 use Rattle.co_client.specs.Plain.{AnswersPlainly, plain_hits}
 use Rattle.co_client.specs.declared.fault.SearchFault.{SearchFault}
 use Rattle.co_client.specs.declared.fault.SearchFault.TheVariants as searching
@@ -90,22 +87,15 @@ pub record IsDrawn (p : LocalWords) (library : Parts) (was is : Stream) : Type 0
 -- a search over exchanges that are honest to a library has this result: for more than sixteen terms
 -- only that they are too many, or want of memory; number, order and lengths of its requests are
 -- planned by the published numbers, and one follows another only where few terms are asked, the
--- numbers pass the test and the reply was taken; what it answers is read from them; they are the
--- drawn ones, and after an answer or a refused placement the random words are left where the draws
--- of one search leave them. If the library is that of a corpus, the result is the plain answer, or
--- that its hits can't be placed
+-- numbers pass the test and the reply was taken; what it answers is read from them, and nothing that
+-- it went past was a cause of another refusal; they are the drawn ones, and after an answer or a
+-- refused placement the random words are left where the draws of one search leave them. If the
+-- library is that of a corpus, the result is the plain answer, or that its hits can't be placed
 pub record IsSearched (p : LocalWords) (library : Parts) (was is : Stream)
     (result : Result Found SearchFault) : Type 0 where
-  pub few : IsForFew (length (query_of p.query)) result
   pub exchanges : List Exchange
   pub honest : AreHonest library None exchanges
-  pub planned : FollowsPlan exchanges
-  pub whole : IsAnswered result → IsWholePlan exchanges
-  pub going : GoesOn (search_for p was) exchanges
-  pub read : IfOk result (IsRead (search_for p was) exchanges)
-  pub refused : IfErr result (IsCause (search_for p was) exchanges)
-  pub asked : (shape : Numbers) (names : List (List ℕ)) → Publishes exchanges shape names
-      → test_of shape ≡ Ok shape → Asks (search_for p was) exchanges shape names result is
+  pub tells : Tells (search_for p was) exchanges result is
   pub drawn : IsAnswered result → IsDrawn p library was is
   pub plain : (documents : List Document) (settings : Settings)
       → IsLibraryFor documents settings library

@@ -1,5 +1,5 @@
 -- The command `search`: what it prints, and when it refuses.
-use Rattle.std.specs.Prelude.{◌≡◌, ◌≤◌, ℕ, List, length, Option, Some, IsSome, IfSome, Result, Ok, Err, IfErr}
+use Rattle.std.specs.Prelude.{◌≡◌, ◌≤◌, ℕ, List, length, Option, Some, None, Result, Ok, Err}
 use Rattle.co_link.specs.Causes.{Rose}
 use Rattle.co_link.specs.Exchanges.{IsDialled, Clears}
 use Rattle.co_link.specs.declared.link.LinkFault.TheVariants.{Failed}
@@ -15,8 +15,7 @@ use Rattle.co_library.specs.Libraries.{Parts}
 use Rattle.co_rounds.specs.Honest.{AreHonest}
 use Rattle.co_rounds.specs.Placing.{CanBePlaced}
 use Rattle.co_rounds.specs.Recording.{IsLibraryFor}
-use Rattle.co_client.specs.Causes.{Search, IsCauseUntold}
-use Rattle.co_client.specs.Faults.{IsForFew}
+use Rattle.co_client.specs.Causes.{Search}
 use Rattle.co_client.specs.Telling.{Tells}
 use Rattle.co_client.specs.Plain.{AnswersPlainly, plain_hits}
 use Rattle.co_client.specs.declared.fault.SearchFault.{SearchFault}
@@ -58,27 +57,27 @@ search_over p was is = record {
   last_failed = is.dial.last_failed;
 }
 
--- a search that made these exchanges has this result: number, order and lengths of its requests are
--- planned by the published numbers, the requests are the drawn ones, and what it answers is read from
--- the replies. Where they are honest to the library of a corpus, whatever keys its server held before,
--- the result is the plain answer, exactly where the plain hits can be placed
-pub record IsSought (p : SearchWords) (was is : Devices) (result : Result Found SearchFault)
-    (exchanges : List Exchange) : Type 0 where
+-- where a dial tells its exchanges, they are these
+abbrev pub AreTold : Option (List Exchange) → Option (List Exchange) → List Exchange → Type 0
+AreTold None is exchanges = is ≡ None
+AreTold (Some before) is exchanges = is ≡ Some exchanges
+
+-- the one dial was answered, and a search over its link made some exchanges, those of the dial where
+-- it tells them, and has this result: number, order and lengths of the requests are planned by the
+-- published numbers, the requests are the drawn ones, what it answers is read from the replies, and
+-- each refusal has its cause there; the exchange that failed is the next of the plan, with the limit
+-- of its reply. Where they are honest to the library of a corpus, whatever keys its server held
+-- before, the result is the plain answer, exactly where the plain hits can be placed
+pub record Sought (p : SearchWords) (was is : Devices) (result : Result Found SearchFault)
+    : Type 0 where
+  pub dialled : Dialled p was.dial is.dial
+  pub exchanges : List Exchange
+  pub told : AreTold was.dial.exchanges is.dial.exchanges exchanges
   pub tells : Tells (search_over p was is) exchanges result is.random
   pub plain : (documents : List Document) (settings : Settings) (library : Parts)
       (held : Option (List ℕ)) → IsLibraryFor documents settings library
       → AreHonest library held exchanges
       → AnswersPlainly documents settings library (terms (joined p.query)) p.pick result
-
--- the one dial was answered, and a search over its link has this result; where the dial tells its
--- exchanges, they are those of the search
-pub record Sought (p : SearchWords) (was is : Devices) (result : Result Found SearchFault)
-    : Type 0 where
-  pub dialled : Dialled p was.dial is.dial
-  pub tells : IsSome was.dial.exchanges → IsSome is.dial.exchanges
-  pub told : IfSome is.dial.exchanges (IsSought p was is result)
-  pub untold : IfErr result (IsCauseUntold (search_over p was is))
-  pub few : IsForFew (length (query_of p.query)) result
 
 -- ---- the command
 

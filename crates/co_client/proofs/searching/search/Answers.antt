@@ -1,8 +1,10 @@
 use Rattle.co_client.proofs.Told.{told-at}
 use Rattle.co_client.proofs.Trails.{made-extends}
 use Rattle.co_client.proofs.Tells_plainly.{tells_plainly, tells_surely}
-use Rattle.co_client.proofs.Conducted.{untold-of}
 use Rattle.co_client.proofs.searching.search.Goals as goal
+
+pub returns-clause-told : goal.returns-clause-told
+returns-clause-told g c = c.conduct.ensures.told
 
 pub returns-clause-plain : goal.returns-clause-plain
 returns-clause-plain g c = λ es e documents settings l held library honest.
@@ -26,9 +28,6 @@ returns-clause-read g c = λ es e. (told-at _ _ _ _ _ c.conduct.ensures.told es 
 
 pub returns-clause-refused : goal.returns-clause-refused
 returns-clause-refused g c = λ es e. (told-at _ _ _ _ _ c.conduct.ensures.told es e).refused
-
-pub returns-clause-untold : goal.returns-clause-untold
-returns-clause-untold g c = untold-of _ _ _ _ _ c.conduct.ensures.told
 
 pub returns-clause-few : goal.returns-clause-few
 returns-clause-few g c = c.conduct.ensures.told.tells.few

@@ -11,5 +11,5 @@ returns g c =
     c.search-found.result c.as_str.result.now c.new-link.result.told c.search-found.new.link.told (c.as_str.ensures.value ∙ c.in-Ok.ensures)
     c.new-link.ensures.told c.library.ensures.library
     (subst (λ (l : Parts). AreHonest l None c.search-found.new.link.told) (ap (λ b. b.0) c.search-found.ensures.beside ∙ c.new-link.ensures.library) c.exchanges.ensures.honest)
-    c.search-found.ensures.few c.search-found.ensures.planned c.search-found.ensures.whole c.search-found.ensures.goes_on c.search-found.ensures.read c.search-found.ensures.refused c.search-found.ensures.asked c.search-found.ensures.plain in
+    c.search-found.ensures.told in
     shown_finds _ _ _ _ c.search-found.result c.shown.result c.shown.ensures searched

@@ -13,7 +13,7 @@ returns-in-Ok-search g c = λ port.
     (dial_state (g.D.Link.exchanges c.search.new.link) (g.D.Link.faults c.search.new.link) (g.D.Link.last_failed c.search.new.link) (g.D.Dial.dials c.search.new.link) (g.D.Dial.last_dial c.search.new.link))
     (g.R.Rng.stream c.args.rng.now) (g.R.Rng.stream c.search.new.rng) (Ok c.in-Ok-search.found) c.as_str.result.now (c.as_str.ensures.value ∙ c.in-Ok.ensures)
     c.in-Ok-dial.ensures.dialled c.in-Ok-dial.ensures.told (c.in-Ok-dial.ensures.cause.same (λ e. absurd cc)) (g.met.D.Dial.exchange_leaves _ _ c.in-Ok-search.ensures.beside)
-    c.in-Ok-search.ensures.extends c.in-Ok-search.ensures.planned c.in-Ok-search.ensures.whole c.in-Ok-search.ensures.goes_on c.in-Ok-search.ensures.read c.in-Ok-search.ensures.refused c.in-Ok-search.ensures.asked c.in-Ok-search.ensures.plain c.in-Ok-search.ensures.earlier c.in-Ok-search.ensures.untold c.in-Ok-search.ensures.few in
+    c.in-Ok-search.ensures.told in
     record { finds = s; dials = dialled s.dialled }
 
 pub returns : goal.returns
@@ -24,5 +24,5 @@ returns g c = λ port.
     (dial_state (g.D.Link.exchanges c.search.new.link) (g.D.Link.faults c.search.new.link) (g.D.Link.last_failed c.search.new.link) (g.D.Dial.dials c.search.new.link) (g.D.Dial.last_dial c.search.new.link))
     (g.R.Rng.stream c.args.rng.now) (g.R.Rng.stream c.search.new.rng) (Err c.in-Err.fault) c.as_str.result.now (c.as_str.ensures.value ∙ c.in-Ok.ensures)
     c.in-Ok-dial.ensures.dialled c.in-Ok-dial.ensures.told (c.in-Ok-dial.ensures.cause.same (λ e. absurd cc)) (g.met.D.Dial.exchange_leaves _ _ c.in-Err.ensures.beside)
-    c.in-Err.ensures.extends c.in-Err.ensures.planned c.in-Err.ensures.whole c.in-Err.ensures.goes_on c.in-Err.ensures.read c.in-Err.ensures.refused c.in-Err.ensures.asked c.in-Err.ensures.plain c.in-Err.ensures.earlier c.in-Err.ensures.untold c.in-Err.ensures.few in
+    c.in-Err.ensures.told in
     record { finds = s; dials = dialled s.dialled }
