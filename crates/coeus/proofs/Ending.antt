@@ -79,15 +79,19 @@ plain_unfound p was is documents refusal corpus cause out files uses = absurd ca
 
 -- ---- the answer
 
+-- the text couldn't be put whole
+pub put_fails : (command : Spoken) (was is : Outside) (text : List ℕ) (refusal : Refusal) → Puts text was.out is.out (Err refusal) → Begins command was is text
+    → Keeps command was.files.held is.files.held → Uses command was.devices is.devices → RefusedBy command was is refusal
+put_fails command was is text Output puts begins keeps uses = record { text = text; begins = begins; took = puts; keeps = keeps; uses = uses }
+put_fails command was is text refusal puts begins keeps uses = absurd puts
+
 -- a command ends with the put of its text
 pub put_ends : (command : Spoken) (was is : Outside) (text : List ℕ) (result : Result (Unit {0}) Refusal) → Puts text was.out is.out result
     → Prints command was is text → Begins command was is text → Passes command → Keeps command was.files.held is.files.held
     → Uses command was.devices is.devices → Ended command was is result
 put_ends command was is text (Ok done) puts prints begins passes keeps uses =
     record { text = text; prints = prints; passes = passes; took = puts.0; keeps = keeps; uses = uses }
-put_ends command was is text (Err Output) puts prints begins passes keeps uses =
-    record { text = text; begins = begins; took = puts; keeps = keeps; uses = uses }
-put_ends command was is text (Err refusal) puts prints begins passes keeps uses = absurd puts
+put_ends command was is text (Err refusal) puts prints begins passes keeps uses = put_fails command was is text refusal puts begins keeps uses
 
 -- ---- the status that is due
 

@@ -1,4 +1,5 @@
 use Rattle.std.proofs.Common.{refl, ◌∙◌}
+use Rattle.std.proofs.lemmas.Result.{err_from_is_err_and}
 use Rattle.coeus.specs.Words.{SpokenSearch}
 use Rattle.coeus.specs.Commands.{search_shown}
 use Rattle.coeus.proofs.Ending.{put_ends}
@@ -8,7 +9,8 @@ use Rattle.coeus.proofs.remote.search_remote.Goals as goal
 pub returns-in_err-found : goal.returns-in_err-found
 returns-in_err-found g c = λ files port.
     let a = c.in_err-found.ensures port in
-    remote_refused (search_shown c.args.command.now) _ _ c.in_err-found.e a.finds (refl, a.dials) refl refl
+    let p = err_from_is_err_and c.from_residual.result c.from_residual.ensures.1 in
+    rw (p.1, p.2) (remote_refused (search_shown c.args.command.now) _ _ c.in_err-found.field-0.0 a.finds (refl, a.dials) refl refl)
 
 pub returns-in_default : goal.returns-in_default
 returns-in_default g c = λ files port. record { cause = tt; out = refl; files = refl; uses = (refl, (c.in_ok-found.ensures port).dials) }

@@ -1,11 +1,14 @@
 use Rattle.std.proofs.Common.{refl}
+use Rattle.std.proofs.lemmas.Result.{err_from_is_err_and}
 use Rattle.coeus.specs.Commands.{serve_shown}
 use Rattle.coeus.proofs.Serves.{unopened, cant_listen, serving_ends}
 use Rattle.coeus.proofs.serving.serve.Goals as goal
 
 pub returns-in_err-loaded : goal.returns-in_err-loaded
 returns-in_err-loaded g c = λ random dial.
-    unopened (serve_shown c.args.command.now) _ _ c.in_err-loaded.e c.in_err-loaded.ensures.cause refl refl c.in_err-loaded.ensures.files
+    let p = err_from_is_err_and c.from_residual.result c.from_residual.ensures.1 in
+    rw (p.1, p.2)
+    (unopened (serve_shown c.args.command.now) _ _ c.in_err-loaded.field-0.0 c.in_err-loaded.ensures.cause refl refl c.in_err-loaded.ensures.files)
 
 pub returns-in-Err : goal.returns-in-Err
 returns-in-Err g c = λ random dial.
