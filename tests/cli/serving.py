@@ -307,8 +307,8 @@ def no_server(program, folder):
 
 
 @contextlib.contextmanager
-def answering(reply):
-    """A server that takes one connection, reads one head, puts these bytes and closes."""
+def answering(reply, holds=False):
+    """A server that takes one connection, reads one head and puts these bytes; it closes then, or after the client."""
     with socket.create_server((HOST, 0)) as port:
         def serve():
             line, _ = port.accept()
@@ -318,6 +318,9 @@ def answering(reply):
                 while b"\r\n\r\n" not in taken and (piece := line.recv(65536)):
                     taken += piece
                 line.sendall(reply)
+                if holds:
+                    with contextlib.suppress(ConnectionError):
+                        line.recv(1)
         server = threading.Thread(target=serve)
         server.start()
         yield port.getsockname()[1]
@@ -332,7 +335,10 @@ def false_servers(program, folder):
     said = [
         (response(500, b"x"), 8, "refused public 500"),
         (response(503), 10, "refused public 503"),
+        (response(200, PUBLIC[:8] + (4095).to_bytes(4, "big") + PUBLIC[12:]), 8, "bad public 8"),
+        (response(200, PUBLIC[:20] + bytes(4) + PUBLIC[24:]), 8, "bad public 20"),
         (response(200, rows), 8, "bad public 28"),
+        (response(200, PUBLIC.replace(b"harbour", b"zarbour")), 8, "bad public 49"),
         (response(200, PUBLIC + b"x"), 8, "bad public 67"),
         (response(200, crowded), 4, "test: rows 17 over degree 16"),
         (b"", 7, "link"),
@@ -347,6 +353,12 @@ def false_servers(program, folder):
             found = searches_as(program, folder, port, ["--", "sea"], status, b"", f"coeus: {line}\n".encode())
         faults += [f"{reply[:40]!r}: {fault}" for fault in found]
     return faults
+
+
+def body_over_the_limit(program, folder):
+    # a client that reads the body would wait for it
+    with answering(b"HTTP/1.1 200 OK\r\nContent-Length: 8519721\r\n\r\n", holds=True) as port:
+        return searches_as(program, folder, port, ["--", "sea"], 7, b"", b"coeus: link\n")
 
 
 # ---- failures of serve
@@ -372,5 +384,5 @@ def full_output(program, folder):
 CASES = [
     published_numbers, one_byte_at_a_time, refusals, clients_that_leave, broken_connection, keys_of_a_session,
     keys_go_with_the_connection, many_requests, with_curl, two_searches, other_numbers_of_workers, unknown_words,
-    too_many_keywords, no_server, false_servers, port_taken, full_output,
+    too_many_keywords, no_server, false_servers, body_over_the_limit, port_taken, full_output,
 ]

@@ -16,6 +16,10 @@ use std::test::Fail;
 const PUBLIC: &[u8] =
     b"COEUSPB1\0\0\0\x10\0\0\0\x01\0\0\0\x01\0\0\0\x01\0\0\0\0\0\0\0\x01\0\0\0\x01\0\0\0\x01\x03sea";
 
+/// The published bytes of a library of degree 512 with four documents and five terms.
+const WIDE: &[u8] =
+    b"COEUSPB1\0\0\x02\0\0\0\0\x04\0\0\0\x05\0\0\0\x10\0\0\0\0\0\0\0\x01\0\0\0\x01\0\0\0\x01\x07harbour\x04moor\x03sea\x04tide\x04wind";
+
 /// q modulo t, and what times t is -1 modulo the two primes of q.
 const REST: u64 = 22_541;
 
@@ -232,6 +236,60 @@ fn refuses_replies(rt: HostRuntime) -> Result<(), Fail> {
             Some(SearchFault::BadReply {
                 target: Target::Meta,
                 place: 14
+            })
+        )
+    );
+    Ok(())
+}
+
+/// The wide library's published bytes, with some put over an offset.
+fn changed(alloc: Global, at: usize, put: &[u8]) -> Result<Vec<u8>, AllocError> {
+    let mut body = Vec::new(alloc);
+    body.extend_from_slice(WIDE.get(..at).unwrap_or(WIDE))?;
+    body.extend_from_slice(put)?;
+    if let Some(rest) = WIDE.get(at.saturating_add(put.len())..) {
+        body.extend_from_slice(rest)?;
+    }
+    Ok(body)
+}
+
+/// Why a search fails where this is published, and the reply for scores is so many zeros.
+fn refusal_of(
+    alloc: Global,
+    public: Vec<u8>,
+    scores: usize,
+) -> Result<Option<SearchFault>, AllocError> {
+    let scores = vec![in alloc; 0; scores]?;
+    let rest = Vec::new(alloc);
+    refusal(
+        alloc,
+        [public, Vec::new(alloc), scores, rest, Vec::new(alloc)],
+    )
+}
+
+#[test]
+fn refuses_wide_replies(rt: HostRuntime) -> Result<(), Fail> {
+    let alloc = rt.alloc();
+    for (at, put, wanted) in [
+        (10, b"\x0f\xff".as_slice(), 8),
+        (23, b"\0".as_slice(), 20),
+        (31, b"\x02".as_slice(), 28),
+        (41, b"z".as_slice(), 49),
+        (67, b"x".as_slice(), 67),
+    ] {
+        let fault = refusal_of(alloc, changed(alloc, at, put)?, 0)?;
+        let Some(SearchFault::BadPublic { place }) = fault else {
+            return Err(Fail::from("no bad public bytes"));
+        };
+        assert_eq!(rt; place, wanted);
+    }
+    let fault = refusal_of(alloc, changed(alloc, 67, b"")?, 14_335)?;
+    assert!(rt;
+        matches!(
+            fault,
+            Some(SearchFault::BadReply {
+                target: Target::Score,
+                place: 14_335
             })
         )
     );

@@ -1,5 +1,7 @@
 //! What a request is put as, and what a reply is read as.
 
+ghost use Rattle.std.specs.Prelude.{◌<◌};
+
 use crate::rows::{number_or, put_bytes, text};
 use crate::served::put_digest;
 use co_http::{Conn, HttpLink};
@@ -10,14 +12,18 @@ use co_link::{
 use serde_json::Value;
 use std::alloc::{AllocError, Global};
 
-/// A link to a host over a connection with that input.
+/// A link to a host over a connection with that input, of which each take gives at most a piece.
 fn link_over(
     alloc: Global,
     host: &str,
     input: Vec<u8>,
-) -> Result<HttpLink<MemoryConnection>, AllocError> {
+    piece: usize,
+) -> Result<HttpLink<MemoryConnection>, AllocError>
+    requires { 0 < piece }
+{
     let sink = MemorySink::new(alloc, 1_000_000, FailingCalls::none(alloc))?;
-    let line = MemoryConnection::new(MemorySource::steady(alloc, input), sink);
+    let source = MemorySource::new(input, piece, FailingCalls::none(alloc));
+    let line = MemoryConnection::new(source, sink);
     let conn = Conn::new(alloc)?;
     let host = Bytes::copy_of(alloc, host.as_bytes())?;
     Ok(HttpLink::new(alloc, conn, line, host))
@@ -44,7 +50,7 @@ fn request(alloc: Global, row: &Value) -> Result<Request, AllocError> {
 
 /// What the request of a row is put as. No reply comes.
 pub fn request_line(alloc: Global, row: &Value) -> Result<String, AllocError> {
-    let mut link = link_over(alloc, text(row, "host"), Vec::new(alloc))?;
+    let mut link = link_over(alloc, text(row, "host"), Vec::new(alloc), usize::MAX)?;
     let _ = link.exchange(request(alloc, row)?, 256);
     let mut line = String::new(alloc);
     put_digest(alloc, &mut line, link.line().sink().as_slice())?;
@@ -66,11 +72,13 @@ fn put_reply(
     }
 }
 
-/// What the reply of a row is read as.
-pub fn reply_line(alloc: Global, row: &Value) -> Result<String, AllocError> {
+/// What the reply of a row is read as, where each take gives at most a piece of it.
+pub fn reply_line(alloc: Global, row: &Value, piece: usize) -> Result<String, AllocError>
+    requires { 0 < piece }
+{
     let mut input = Vec::new(alloc);
     put_bytes(&mut input, text(row, "reply"))?;
-    let mut link = link_over(alloc, "localhost", input)?;
+    let mut link = link_over(alloc, "localhost", input, piece)?;
     let outcome = link.exchange(request(alloc, row)?, number_or(row, "limit", 0));
     let mut line = String::new(alloc);
     put_reply(alloc, &mut line, outcome)?;

@@ -53,17 +53,17 @@ fn put_drawn<R: Runs, W: Stand>(
     requires { R.is_shared }
 {
     match case.call() {
-        "search" => {
+        "search" | "trace" => {
             let mut link = LocalLink::new(rt, case.alloc, loaded, 2);
             put_end(line, case, &mut link, words)?;
-            put_exchanges(case.alloc, line, link.exchanges())?;
+            put_exchanges(case, line, link.exchanges())?;
         }
         "cut" => {
             let fourth = FailingCalls::new(vec![in case.alloc; 3; 1]?);
             let link = LocalLink::new(rt, case.alloc, loaded, 2);
             let mut cut = FailNth::new(case.alloc, link, fourth);
             put_end(line, case, &mut cut, words)?;
-            put_exchanges(case.alloc, line, cut.inner().exchanges())?;
+            put_exchanges(case, line, cut.inner().exchanges())?;
         }
         _ => return Err(BadCase::Unfit),
     }
@@ -112,27 +112,38 @@ fn put_refusal(line: &mut String, fault: &SearchFault) -> Result<(), BadCase> {
     }
 }
 
-fn put_exchanges(
-    alloc: Global,
-    line: &mut String,
-    exchanges: &[Exchange],
-) -> Result<(), AllocError> {
+/// The target of each exchange, and what a case wants of the rest: a trace wants lengths.
+fn put_exchanges(case: Case, line: &mut String, exchanges: &[Exchange]) -> Result<(), AllocError> {
     for exchange in exchanges {
-        put_exchange(alloc, line, exchange)?;
+        put_target(line, exchange.request.target)?;
+        match case.call() {
+            "trace" => put_lengths(line, exchange)?,
+            _ => put_digests(case.alloc, line, exchange)?,
+        }
     }
     Ok(())
 }
 
-/// Target and status of an exchange, and the digests of its bodies.
-fn put_exchange(alloc: Global, line: &mut String, exchange: &Exchange) -> Result<(), AllocError> {
-    let target = match exchange.request.target {
+fn put_target(line: &mut String, target: Target) -> Result<(), AllocError> {
+    let name = match target {
         Target::Public => "public",
         Target::Keys => "keys",
         Target::Score => "score",
         Target::Meta => "meta",
         Target::Document => "document",
     };
-    put_text(line, target)?;
+    put_text(line, name)
+}
+
+/// The length of a request, and status and length of its reply.
+fn put_lengths(line: &mut String, exchange: &Exchange) -> Result<(), AllocError> {
+    put(line, exchange.request.body.len() as u128)?;
+    put(line, exchange.reply.status as u128)?;
+    put(line, exchange.reply.body.len() as u128)
+}
+
+/// The status of a reply, and the digests of both bodies.
+fn put_digests(alloc: Global, line: &mut String, exchange: &Exchange) -> Result<(), AllocError> {
     put(line, exchange.reply.status as u128)?;
     put_digest(alloc, line, exchange.request.body.as_slice())?;
     put_digest(alloc, line, exchange.reply.body.as_slice())

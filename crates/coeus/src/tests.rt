@@ -1,0 +1,386 @@
+//! The program over devices in memory of which one call fails, and then the same run again with the
+//! same devices: how each run ends, and what stands after it.
+ghost use Rattle.co_link.specs.Fresh.{IsFresh};
+
+use super::*;
+use crate::local::load;
+use crate::publish::import;
+use crate::words::ImportCommand;
+use co_library::Settings;
+use co_link::{
+    Bytes, Dial, Exchange, FailNth, FailingCalls, Files, MemoryConnection, MemoryFiles, MemoryPort,
+    MemorySink, MemorySource, Target,
+};
+use co_server::LocalLink;
+use std::alloc::Global;
+use std::collections::BTreeMap;
+use std::process::Abort;
+use std::thread::Threads;
+
+const C1: &[u8] =
+    b"{\"title\":\"Sea\",\"text\":\"sea sea wind\"}\n{\"title\":\"Harbour\",\"text\":\"harbour wind\"}\n{\"title\":\"Tide\",\"text\":\"tide sea\"}\n{\"title\":\"Moor\",\"text\":\"moor\"}\n";
+
+const FOUND: &[u8] =
+    b"hits 3\n1 0 12 Sea\n2 1 4 Harbour\n3 2 4 Tide\nunknown 0\ndocument 0 12\nsea sea wind\n";
+
+const GET: &[u8] = b"GET /public HTTP/1.1\r\nHost: archive\r\n\r\n";
+
+const TARGETS: [Target; 5] = [
+    Target::Public,
+    Target::Keys,
+    Target::Score,
+    Target::Meta,
+    Target::Document,
+];
+
+// Calls that count together.
+#[derive(Clone, Copy, PartialEq, Eq)]
+enum Device {
+    Files,
+    Dial,
+    Port,
+    Takes,
+    Puts,
+    Out,
+    Err,
+}
+
+// How a run ends: its status, what stands on both outputs, and the lengths of the requests that were
+// made.
+#[derive(Clone, Copy)]
+struct End<'a> {
+    status: u8,
+    out: &'a [u8],
+    err: &'a [u8],
+    asked: &'a [usize],
+}
+
+// A run over a library of that degree, twice; calls of one device fail, by their numbers.
+#[derive(Clone, Copy)]
+struct Case<'a> {
+    degree: u32,
+    text: &'a str,
+    device: Device,
+    numbers: &'a [u64],
+    ends: [End<'a>; 2],
+}
+
+// The devices of a run, but for its dial.
+#[derive(Drop)]
+struct Desk {
+    files: MemoryFiles,
+    port: MemoryPort,
+    rng: ChaCha20Rng,
+    out: MemorySink,
+    err: MemorySink,
+}
+
+// Of the calls of a device those that fail.
+fn calls(rt: &impl Abort, alloc: Global, case: &Case<'_>, device: Device) -> FailingCalls {
+    if case.device != device {
+        return FailingCalls::none(alloc);
+    }
+    FailingCalls::new(Vec::from_slice(alloc, case.numbers).expect(rt, "memory"))
+}
+
+// Puts a file among others.
+fn put(
+    rt: &impl Abort,
+    alloc: Global,
+    files: &mut BTreeMap<String, Bytes>,
+    name: &str,
+    bytes: &[u8],
+) {
+    let name = String::from_str(alloc, name).expect(rt, "memory");
+    let bytes = Bytes::copy_of(alloc, bytes).expect(rt, "memory");
+    assert!(rt; files.insert(name, bytes).is_ok());
+}
+
+// A file with the corpus, and one with nothing in it.
+fn files(rt: &impl Abort, alloc: Global) -> BTreeMap<String, Bytes> {
+    let mut files = BTreeMap::new(alloc);
+    put(rt, alloc, &mut files, "c1", C1);
+    put(rt, alloc, &mut files, "empty", b"");
+    files
+}
+
+// The corpus, published.
+fn published(rt: &impl Abort, alloc: Global, degree: u32) -> MemoryFiles {
+    let none = FailingCalls::none(alloc);
+    let mut files = MemoryFiles::with_files(alloc, files(rt, alloc), none);
+    let mut out = sink(rt, alloc, FailingCalls::none(alloc));
+    let settings = Settings {
+        degree,
+        terms: 16_384,
+        hits: 16,
+        salt: 0,
+        chunks: 1,
+    };
+    let command = ImportCommand {
+        corpus: "c1",
+        library: "lib",
+        settings,
+    };
+    assert!(rt; import(alloc, &command, &mut files, &mut out).is_ok());
+    files
+}
+
+fn sink(rt: &impl Abort, alloc: Global, calls: FailingCalls) -> MemorySink {
+    MemorySink::new(alloc, 4096, calls).expect(rt, "memory")
+}
+
+// A connection that asks once.
+fn connection(
+    rt: &impl Abort,
+    alloc: Global,
+    takes: FailingCalls,
+    puts: FailingCalls,
+) -> MemoryConnection
+    ensures { IsFresh result }
+{
+    let input = Vec::from_slice(alloc, GET).expect(rt, "memory");
+    let source = MemorySource::new(input, 1000, takes);
+    let sink = MemorySink::new(alloc, 1000, puts).expect(rt, "memory");
+    MemoryConnection::new(source, sink)
+}
+
+// A connection that asks once, of which no call fails.
+fn steady(rt: &impl Abort, alloc: Global) -> MemoryConnection
+    ensures { IsFresh result }
+{
+    let (takes, puts) = (FailingCalls::none(alloc), FailingCalls::none(alloc));
+    connection(rt, alloc, takes, puts)
+}
+
+// Four connections that wait; a take or a put of the first may fail.
+fn port(rt: &impl Abort, alloc: Global, case: &Case<'_>) -> MemoryPort {
+    let takes = calls(rt, alloc, case, Device::Takes);
+    let puts = calls(rt, alloc, case, Device::Puts);
+    let first = connection(rt, alloc, takes, puts);
+    let mut waiting = Vec::new(alloc);
+    waiting.push(first).expect(rt, "memory");
+    waiting.push(steady(rt, alloc)).expect(rt, "memory");
+    waiting.push(steady(rt, alloc)).expect(rt, "memory");
+    waiting.push(steady(rt, alloc)).expect(rt, "memory");
+    let calls = calls(rt, alloc, case, Device::Port);
+    MemoryPort::new(alloc, waiting, calls).expect(rt, "memory")
+}
+
+// The words of a text.
+fn words(rt: &impl Abort, alloc: Global, text: &str) -> Vec<String> {
+    let mut words = Vec::new(alloc);
+    for word in text.split_whitespace() {
+        let word = String::from_str(alloc, word).expect(rt, "memory");
+        words.push(word).expect(rt, "memory");
+    }
+    words
+}
+
+// Whether a file has these bytes.
+fn holds(files: &mut MemoryFiles, name: &str, bytes: &[u8]) -> bool {
+    match files.read(name, 65_536) {
+        Ok(found) => found.as_slice() == bytes,
+        Err(_) => false,
+    }
+}
+
+// Whether these are the exchanges of a search with requests of these lengths, from its first one on.
+fn are_asked(exchanges: &[Exchange], lengths: &[usize]) -> bool {
+    let mut same = exchanges.len() == lengths.len();
+    for ((exchange, target), length) in exchanges.iter().zip(TARGETS).zip(lengths) {
+        let request = &exchange.request;
+        same = same && request.target == target && request.body.len() == *length;
+    }
+    same
+}
+
+impl Desk {
+    fn new(rt: &impl Abort, alloc: Global, library: &[u8], case: &Case<'_>) -> Desk {
+        let mut held = files(rt, alloc);
+        put(rt, alloc, &mut held, "lib", library);
+        let calls_on_files = calls(rt, alloc, case, Device::Files);
+        Desk {
+            files: MemoryFiles::with_files(alloc, held, calls_on_files),
+            port: port(rt, alloc, case),
+            rng: ChaCha20Rng::from_seed([7; 32]),
+            out: sink(rt, alloc, calls(rt, alloc, case, Device::Out)),
+            err: sink(rt, alloc, calls(rt, alloc, case, Device::Err)),
+        }
+    }
+
+    fn run<T: Threads + Sync, D: Dial>(
+        &mut self,
+        rt: &T,
+        alloc: Global,
+        dial: &mut D,
+        words: &[String],
+    ) -> u8 {
+        let Desk {
+            files,
+            port,
+            rng,
+            out,
+            err,
+        } = self;
+        run(rt, alloc, words, files, dial, port, rng, out, err)
+    }
+
+    // Whether a run with that status has ended so, with the files as they were but for those that
+    // it made.
+    fn stands(&mut self, status: u8, end: &End<'_>, library: &[u8]) -> bool {
+        let same = self.out.as_slice() == end.out && self.err.as_slice() == end.err;
+        let kept = holds(&mut self.files, "c1", C1) && holds(&mut self.files, "empty", b"");
+        same && kept && status == end.status && holds(&mut self.files, "lib", library)
+    }
+}
+
+// Whether both runs of a case end as it says. Behind the dial is a session of its own.
+fn ends_twice<T: Threads + Sync + Abort>(rt: &T, alloc: Global, case: &Case<'_>) -> bool {
+    let mut published = published(rt, alloc, case.degree);
+    let library = published.read("lib", 65_536).expect(rt, "a library");
+    let Ok(loaded) = load(alloc, "lib", &mut published) else {
+        return false;
+    };
+    let link = LocalLink::new(rt, alloc, &loaded, 4);
+    let mut dial = FailNth::new(alloc, link, calls(rt, alloc, case, Device::Dial));
+    let mut desk = Desk::new(rt, alloc, library.as_slice(), case);
+    let words = words(rt, alloc, case.text);
+    let mut same = true;
+    for end in &case.ends {
+        let status = desk.run(rt, alloc, &mut dial, &words);
+        same = same && desk.stands(status, end, library.as_slice());
+        same = same && are_asked(dial.inner().exchanges(), end.asked);
+    }
+    same
+}
+
+// A run at degree 16 that has this status, leaves the output and says a line; and again, which
+// answers.
+fn answers_again<'a>(
+    text: &'a str,
+    device: Device,
+    numbers: &'a [u64],
+    status: u8,
+    line: &'a [u8],
+    answer: &'a [u8],
+) -> Case<'a> {
+    let first = End {
+        status,
+        out: b"",
+        err: line,
+        asked: &[],
+    };
+    let second = End {
+        status: 0,
+        out: answer,
+        ..first
+    };
+    Case {
+        degree: 16,
+        text,
+        device,
+        numbers,
+        ends: [first, second],
+    }
+}
+
+#[test]
+fn plain_again(rt: HostRuntime) {
+    let (alloc, text) = (rt.alloc(), "plain c1 -- sea wind");
+    let read = answers_again(text, Device::Files, &[0], 9, b"coeus: file c1\n", FOUND);
+    assert!(rt; ends_twice(&rt, alloc, &read));
+    let put = answers_again(text, Device::Out, &[0], 9, b"coeus: output\n", FOUND);
+    assert!(rt; ends_twice(&rt, alloc, &put));
+}
+
+#[test]
+fn local_again(rt: HostRuntime) {
+    let (alloc, text) = (rt.alloc(), "local lib -- sea wind");
+    let read = answers_again(text, Device::Files, &[0], 9, b"coeus: file lib\n", FOUND);
+    assert!(rt; ends_twice(&rt, alloc, &read));
+    let put = answers_again(text, Device::Out, &[0], 9, b"coeus: output\n", FOUND);
+    assert!(rt; ends_twice(&rt, alloc, &put));
+}
+
+#[test]
+fn import_again(rt: HostRuntime) {
+    let (alloc, text) = (rt.alloc(), "import c1 other --degree 512");
+    let line = b"documents 4 terms 5 rows 1 bins 1 chunks 1\n";
+    let write = answers_again(text, Device::Files, &[1], 9, b"coeus: file other\n", line);
+    assert!(rt; ends_twice(&rt, alloc, &write));
+}
+
+// The line of a refusal can't be put.
+#[test]
+fn refusal_again(rt: HostRuntime) {
+    let line = b"coeus: corpus: no document\n";
+    let mut case = answers_again("plain empty -- sea", Device::Err, &[0, 1, 2], 3, b"", b"");
+    case.ends[1].status = 3;
+    case.ends[1].err = line;
+    assert!(rt; ends_twice(&rt, rt.alloc(), &case));
+}
+
+const SEARCH: &str = "search localhost 8080 -- sea wind";
+
+// Each exchange fails once.
+#[test]
+fn search_again(rt: HostRuntime) {
+    let asked = [0, 10_752, 448, 10_752, 448];
+    for number in 1..6u64 {
+        let numbers = [number];
+        let mut case = answers_again(SEARCH, Device::Dial, &numbers, 7, b"coeus: link\n", FOUND);
+        case.ends[0].asked = &asked[..number as usize - 1];
+        case.ends[1].asked = &asked;
+        assert!(rt; ends_twice(&rt, rt.alloc(), &case));
+    }
+}
+
+// The dial fails, of a search of the corpus at degree 512.
+#[test]
+fn dial_again(rt: HostRuntime) {
+    let mut case = answers_again(SEARCH, Device::Dial, &[0], 7, b"coeus: link\n", FOUND);
+    case.degree = 512;
+    case.ends[1].asked = &[0, 688_128, 14_336, 344_064, 14_336];
+    assert!(rt; ends_twice(&rt, rt.alloc(), &case));
+}
+
+const SERVE: &str = "serve lib --connections 2";
+
+const SERVED: &[u8] = b"connection 1 requests 1 closed\nconnection 2 requests 1 closed\n";
+
+// The port doesn't listen.
+#[test]
+fn listen_again(rt: HostRuntime) {
+    let case = answers_again(SERVE, Device::Port, &[0], 7, b"coeus: link\n", SERVED);
+    assert!(rt; ends_twice(&rt, rt.alloc(), &case));
+}
+
+// The port doesn't accept a second connection.
+#[test]
+fn accept_again(rt: HostRuntime) {
+    let twice =
+        b"connection 1 requests 1 closed\nconnection 1 requests 1 closed\nconnection 2 requests 1 closed\n";
+    let mut case = answers_again(SERVE, Device::Port, &[2], 7, b"coeus: link\n", twice);
+    case.ends[0].out = b"connection 1 requests 1 closed\n";
+    assert!(rt; ends_twice(&rt, rt.alloc(), &case));
+}
+
+// The first take of the first connection fails.
+#[test]
+fn take_again(rt: HostRuntime) {
+    let twice =
+        b"connection 1 requests 0 read fault\nconnection 2 requests 1 closed\nconnection 1 requests 1 closed\nconnection 2 requests 1 closed\n";
+    let mut case = answers_again(SERVE, Device::Takes, &[0], 0, b"", twice);
+    case.ends[0].out = b"connection 1 requests 0 read fault\nconnection 2 requests 1 closed\n";
+    assert!(rt; ends_twice(&rt, rt.alloc(), &case));
+}
+
+// The first put of the first connection fails.
+#[test]
+fn put_again(rt: HostRuntime) {
+    let twice =
+        b"connection 1 requests 0 write fault\nconnection 2 requests 1 closed\nconnection 1 requests 1 closed\nconnection 2 requests 1 closed\n";
+    let mut case = answers_again(SERVE, Device::Puts, &[0], 0, b"", twice);
+    case.ends[0].out = b"connection 1 requests 0 write fault\nconnection 2 requests 1 closed\n";
+    assert!(rt; ends_twice(&rt, rt.alloc(), &case));
+}
