@@ -35,16 +35,24 @@ pub fn digit_sums(
     let degree = tables.degree();
     let mut digits = Decomposition::zero(alloc, degree)?;
     digits.set(poly);
-    let mut values = PairSpectrum::zero(alloc, degree)?;
+    let mut low = PairSpectrum::zero(alloc, degree)?;
+    let mut middle = PairSpectrum::zero(alloc, degree)?;
+    let mut high = PairSpectrum::zero(alloc, degree)?;
     let mut sum0 = PairSum::zero(alloc, degree)?;
     let mut sum1 = PairSum::zero(alloc, degree)?;
-    for index in 0..DIGIT_COUNT {
-        digits.to_spectrum(tables, index, &mut values);
-        sum0.add_product(&values, &values0[index as usize]);
-        sum1.add_product(&values, &values1[index as usize]);
+    for pass in 0..DIGIT_COUNT / 3 {
+        let index = 3 * pass;
+        digits.to_spectrum(tables, index, &mut low);
+        digits.to_spectrum(tables, index + 1, &mut middle);
+        digits.to_spectrum(tables, index + 2, &mut high);
+        let at = index as usize;
+        let (key0, next0, last0) = (&values0[at], &values0[at + 1], &values0[at + 2]);
+        sum0.add_three(&low, key0, &middle, next0, &high, last0);
+        let (key1, next1, last1) = (&values1[at], &values1[at + 1], &values1[at + 2]);
+        sum1.add_three(&low, key1, &middle, next1, &high, last1);
     }
-    let first = polynomial_of(alloc, tables, &sum0, &mut values)?;
-    let second = polynomial_of(alloc, tables, &sum1, &mut values)?;
+    let first = polynomial_of(alloc, tables, &sum0, &mut low)?;
+    let second = polynomial_of(alloc, tables, &sum1, &mut low)?;
     Ok((first, second))
 }
 
