@@ -129,9 +129,11 @@ pub with_product : List ℕ → List ℕ → List ℕ → List ℕ
 with_product old a b = map (λ k. get_or old k 0 + get_or a k 0 * get_or b k 0) (range_with_len 0 (length old))
 
 with-length : (old a b : List ℕ) → length (with_product old a b) ≡ length old
+unfolding with_product
 with-length old a b = length-map-range_with_len (λ k. get_or old k 0 + get_or a k 0 * get_or b k 0) 0 (length old)
 
 with-get : (old a b : List ℕ) (k : ℕ) → k < length old → get_or (with_product old a b) k 0 ≡ get_or old k 0 + get_or a k 0 * get_or b k 0
+unfolding with_product
 with-get old a b k u = let e : 0 + k ≡ k = omega arith in get_or-map-range_with_len (λ k. get_or old k 0 + get_or a k 0 * get_or b k 0) 0 (length old) k k 0 u e
 
 pub with_product-is : (old a b : List ℕ) → AreSumsWith old a b (with_product old a b)

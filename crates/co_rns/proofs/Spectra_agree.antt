@@ -59,7 +59,7 @@ gathered_reduced n f s values h r = record {
 }
 
 -- one product more, as sums
-pub with_pair : PairSums → PairValues → PairValues → PairSums
+abbrev pub with_pair : PairSums → PairValues → PairValues → PairSums
 with_pair old a b = record { count = old.count + 1; first = with_product old.first a.first b.first; second = with_product old.second a.second b.second }
 
 pub with_pair-is : (old : PairSums) (a b : PairValues) → IsPairSumWith old a b (with_pair old a b)
