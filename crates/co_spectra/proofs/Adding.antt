@@ -111,7 +111,7 @@ product_are s c₀ c₁ turned plain c a p d h u v x y =
     (part_product n (coefficients c.c1) (coefficients a.c1) (centred_coefficients p) s.c1 c₁ turned.c1 plain d w h.c1 u.c1 v.values y))
 
 -- one product more, as sums
-with_cipher : CipherSums → CipherValues → PairValues → CipherSums
+abbrev with_cipher : CipherSums → CipherValues → PairValues → CipherSums
 with_cipher s turned plain = record { degree = s.degree; c0 = with_pair s.c0 turned.c0 plain; c1 = with_pair s.c1 turned.c1 plain }
 
 next_are : (s : CipherSums) (turned : CipherValues) (plain : PairValues) (c a : Ciphertext) (p : List ℕ) → IsDegree s.degree → IsCipherSumOf c s → AreCipherValues s.degree a turned → ArePlainValues s.degree p plain

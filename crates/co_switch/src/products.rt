@@ -1,9 +1,10 @@
 //! Sums of the products of digits and a key's polynomials, by values.
 
-ghost use Rattle.std.specs.Prelude.{ℕ, ℤ, List, ◌≡◌, length, IfOk};
-ghost use Rattle.co_math.specs.Parameters.{q};
+ghost use Rattle.std.specs.Prelude.{ℕ, ℤ, List, [], ◌∷◌, ◌≡◌, ◌<◌, ◌≤◌, ◌+◌, length, slice_index_or, IfOk};
+ghost use Rattle.co_math.specs.Parameters.{digit_count, q};
 ghost use Rattle.co_math.specs.Coefficients.{residues_of};
-ghost use Rattle.co_rns.specs.Spectra.{IsPairSumOf, spectrum_degree};
+ghost use Rattle.co_ring.specs.Product_sums.{most_products};
+ghost use Rattle.co_rns.specs.Spectra.{IsPairSumOf, IsPairSumWithAll, PairValues, spectrum_degree};
 ghost use Rattle.co_switch.specs.Keys.{AreOfDegree, AreSpectra};
 ghost use Rattle.co_switch.specs.Switches.{digit_sum};
 
@@ -45,15 +46,34 @@ pub fn digit_sums(
         digits.to_spectrum(tables, index, &mut low);
         digits.to_spectrum(tables, index + 1, &mut middle);
         digits.to_spectrum(tables, index + 2, &mut high);
-        let at = index as usize;
-        let (key0, next0, last0) = (&values0[at], &values0[at + 1], &values0[at + 2]);
-        sum0.add_three(&low, key0, &middle, next0, &high, last0);
-        let (key1, next1, last1) = (&values1[at], &values1[at + 1], &values1[at + 2]);
-        sum1.add_three(&low, key1, &middle, next1, &high, last1);
+        add_three(&mut sum0, &low, &middle, &high, values0, index as usize);
+        add_three(&mut sum1, &low, &middle, &high, values1, index as usize);
     }
     let first = polynomial_of(alloc, tables, &sum0, &mut low)?;
     let second = polynomial_of(alloc, tables, &sum1, &mut low)?;
     Ok((first, second))
+}
+
+/// Adds the products of three digits and a key's polynomials, from a place on.
+fn add_three(
+    sum: &mut PairSum,
+    low: &PairSpectrum,
+    middle: &PairSpectrum,
+    high: &PairSpectrum,
+    keys: &[PairSpectrum],
+    at: usize,
+)
+    requires keys { AreOfDegree (length sum.old.first) keys.now }
+    requires low_degree { spectrum_degree low.now ≡ length sum.old.first }
+    requires middle_degree { spectrum_degree middle.now ≡ length sum.old.first }
+    requires high_degree { spectrum_degree high.now ≡ length sum.old.first }
+    requires place { at + 2 < digit_count }
+    requires room { sum.old.count + 3 ≤ most_products }
+    ensures { (d : PairValues) → IsPairSumWithAll sum.old
+        ((low.now, slice_index_or keys.now at d) ∷ (middle.now, slice_index_or keys.now (at + 1) d)
+            ∷ (high.now, slice_index_or keys.now (at + 2) d) ∷ []) sum.new }
+{
+    sum.add_three(low, &keys[at], middle, &keys[at + 1], high, &keys[at + 2]);
 }
 
 /// The polynomial whose values a sum has.
