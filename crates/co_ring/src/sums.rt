@@ -106,7 +106,9 @@ impl ProductSum {
         requires e_degree { length e.now.values ≡ length self.old.values }
         requires f_degree { length f.now.values ≡ length self.old.values }
         requires room { self.old.count + 3 ≤ most_products }
-        ensures { IsSumWithAll self.old ((a.now.values, b.now.values) ∷ (c.now.values, d.now.values) ∷ (e.now.values, f.now.values) ∷ []) self.new }
+        ensures { IsSumWithAll self.old
+            ((a.now.values, b.now.values) ∷ (c.now.values, d.now.values)
+            ∷ (e.now.values, f.now.values) ∷ []) self.new }
     {
         let q = self.modulus.value();
         gather_three(
@@ -152,7 +154,9 @@ impl ProductSum {
         requires g_degree { length g.now.values ≡ length self.old.values }
         requires h_degree { length h.now.values ≡ length self.old.values }
         requires room { self.old.count + 4 ≤ most_products }
-        ensures { IsSumWithAll self.old ((a.now.values, b.now.values) ∷ (c.now.values, d.now.values) ∷ (e.now.values, f.now.values) ∷ (g.now.values, h.now.values) ∷ []) self.new }
+        ensures { IsSumWithAll self.old
+            ((a.now.values, b.now.values) ∷ (c.now.values, d.now.values)
+            ∷ (e.now.values, f.now.values) ∷ (g.now.values, h.now.values) ∷ []) self.new }
     {
         let q = self.modulus.value();
         gather_four(

@@ -75,10 +75,14 @@ impl PairSum {
         requires e_degree { spectrum_degree e.now ≡ length self.old.first }
         requires f_degree { spectrum_degree f.now ≡ length self.old.first }
         requires room { self.old.count + 3 ≤ most_products }
-        ensures { IsPairSumWithAll self.old ((a.now, b.now) ∷ (c.now, d.now) ∷ (e.now, f.now) ∷ []) self.new }
+        ensures { IsPairSumWithAll self.old
+            ((a.now, b.now) ∷ (c.now, d.now) ∷ (e.now, f.now) ∷ []) self.new }
     {
-        self.first.add_three(&a.first, &b.first, &c.first, &d.first, &e.first, &f.first);
-        self.second.add_three(&a.second, &b.second, &c.second, &d.second, &e.second, &f.second);
+        self.first
+            .add_three(&a.first, &b.first, &c.first, &d.first, &e.first, &f.first);
+        self.second.add_three(
+            &a.second, &b.second, &c.second, &d.second, &e.second, &f.second,
+        );
     }
 
     /// Adds four products, each of two spectra that stand one after the other, in one pass.
@@ -102,27 +106,14 @@ impl PairSum {
         requires g_degree { spectrum_degree g.now ≡ length self.old.first }
         requires h_degree { spectrum_degree h.now ≡ length self.old.first }
         requires room { self.old.count + 4 ≤ most_products }
-        ensures { IsPairSumWithAll self.old ((a.now, b.now) ∷ (c.now, d.now) ∷ (e.now, f.now) ∷ (g.now, h.now) ∷ []) self.new }
+        ensures { IsPairSumWithAll self.old
+            ((a.now, b.now) ∷ (c.now, d.now) ∷ (e.now, f.now) ∷ (g.now, h.now) ∷ []) self.new }
     {
         self.first.add_four(
-            &a.first,
-            &b.first,
-            &c.first,
-            &d.first,
-            &e.first,
-            &f.first,
-            &g.first,
-            &h.first,
+            &a.first, &b.first, &c.first, &d.first, &e.first, &f.first, &g.first, &h.first,
         );
         self.second.add_four(
-            &a.second,
-            &b.second,
-            &c.second,
-            &d.second,
-            &e.second,
-            &f.second,
-            &g.second,
-            &h.second,
+            &a.second, &b.second, &c.second, &d.second, &e.second, &f.second, &g.second, &h.second,
         );
     }
 

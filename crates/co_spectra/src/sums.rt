@@ -152,19 +152,22 @@ impl CipherSum {
         requires f_degree { spectrum_degree f.now ≡ self.old.degree }
         requires g_degree { AreOfDegree self.old.degree g.now }
         requires h_degree { spectrum_degree h.now ≡ self.old.degree }
-        ensures products { (k k1 k2 k3 k4 : Ciphertext) (p1 p2 p3 p4 : List ℕ) → IsCipherSumOf k self.old
-            → AreCipherValues self.old.degree k1 a.now → ArePlainValues self.old.degree p1 b.now
-            → AreCipherValues self.old.degree k2 c.now → ArePlainValues self.old.degree p2 d.now
-            → AreCipherValues self.old.degree k3 e.now → ArePlainValues self.old.degree p3 f.now
-            → AreCipherValues self.old.degree k4 g.now → ArePlainValues self.old.degree p4 h.now
+        ensures products { (k k1 k2 k3 k4 : Ciphertext) (p1 p2 p3 p4 : List ℕ)
+            → IsCipherSumOf k self.old
+            → AreCipherValues self.old.degree k1 a.now
+            → ArePlainValues self.old.degree p1 b.now
+            → AreCipherValues self.old.degree k2 c.now
+            → ArePlainValues self.old.degree p2 d.now
+            → AreCipherValues self.old.degree k3 e.now
+            → ArePlainValues self.old.degree p3 f.now
+            → AreCipherValues self.old.degree k4 g.now
+            → ArePlainValues self.old.degree p4 h.now
             → IsCipherSumOf (four_added k k1 k2 k3 k4 p1 p2 p3 p4) self.new }
         ensures degree { self.new.degree ≡ self.old.degree }
         ensures count { self.new.c0.count ≡ self.old.c0.count + 4 }
     {
-        self.c0
-            .add_four(&a.c0, b, &c.c0, d, &e.c0, f, &g.c0, h);
-        self.c1
-            .add_four(&a.c1, b, &c.c1, d, &e.c1, f, &g.c1, h);
+        self.c0.add_four(&a.c0, b, &c.c0, d, &e.c0, f, &g.c0, h);
+        self.c1.add_four(&a.c1, b, &c.c1, d, &e.c1, f, &g.c1, h);
         self.count += 4;
     }
 

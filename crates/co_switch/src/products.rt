@@ -71,7 +71,7 @@ fn add_three(
     requires room { sum.old.count + 3 ≤ most_products }
     ensures { (d : PairValues) → IsPairSumWithAll sum.old
         ((low.now, slice_index_or keys.now at d) ∷ (middle.now, slice_index_or keys.now (at + 1) d)
-            ∷ (high.now, slice_index_or keys.now (at + 2) d) ∷ []) sum.new }
+        ∷ (high.now, slice_index_or keys.now (at + 2) d) ∷ []) sum.new }
 {
     sum.add_three(low, &keys[at], middle, &keys[at + 1], high, &keys[at + 2]);
 }

@@ -107,7 +107,7 @@ pub fn gather(sums: &mut [u128], a: &[u64], b: &[u64], count: u64, q: u64)
     }
 }
 
-/// The same of three products in one pass.
+/// The same of three products in one pass, so that the sums are read and written once.
 #[inline]
 pub fn gather_three(
     sums: &mut [u128],
@@ -180,7 +180,8 @@ pub fn gather_four(
     requires within { AreWithin (count * (q * q)) sums.old }
     requires room { count + 4 ≤ 2 ^ 25 }
     ensures within_after { AreWithin ((count + 4) * (q * q)) sums.new }
-    ensures sums { GatheredAll sums.old ((a.now, b.now) ∷ (c.now, d.now) ∷ (e.now, f.now) ∷ (g.now, h.now) ∷ [])
+    ensures sums { GatheredAll sums.old
+        ((a.now, b.now) ∷ (c.now, d.now) ∷ (e.now, f.now) ∷ (g.now, h.now) ∷ [])
         (length sums.old) sums.new }
 {
     for i in 0..sums.len() {
