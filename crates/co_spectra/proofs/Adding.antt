@@ -1,13 +1,12 @@
 -- Products, sums and zeros of ciphertexts, by their values.
-use Rattle.std.proofs.Common.{◌≡◌, ℕ, ◌+◌, ◌<◌, sym, ap, subst, ◌∙◌, arith, ℤ, pos, ◌+ℤ◌, List, [], ◌∷◌, length}
+use Rattle.std.proofs.Common.{◌≡◌, ℕ, ◌<◌, sym, ap, subst, ◌∙◌, arith, ℤ, pos, ◌+ℤ◌, List, [], ◌∷◌, length}
 use Rattle.co_math.specs.Parameters.{q}
-use Rattle.co_math.specs.Residues.{Congruent}
 use Rattle.co_math.specs.Coefficients.{IsDegree, coefficients, residues_of}
 use Rattle.co_math.specs.Polynomials.{IsWrapped, plus, product, unit}
 use Rattle.co_math.proofs.Integers.{linear}
 use Rattle.co_math.proofs.Degrees.{degree_positive}
 use Rattle.co_math.proofs.Done.{own_residues}
-use Rattle.co_math.proofs.Residues.{cong_from, cong-add, cong-refl, cong-sym, cong-trans}
+use Rattle.co_math.proofs.Residues.{cong-add, cong-refl, cong-sym}
 use Rattle.co_math.proofs.Residue_lists.{residues_of-is}
 use Rattle.co_math.proofs.Spreads.{product-unit}
 use Rattle.co_rns.specs.Pairs.{IsWhole}

@@ -1,4 +1,4 @@
-use Rattle.std.proofs.Common.{◌≡◌, ◌+◌, ◌<◌, [], ◌∷◌, List, length, get_or, arith, subst}
+use Rattle.std.proofs.Common.{◌+◌, [], ◌∷◌, List, arith, subst}
 use Rattle.std.proofs.lemmas.List.{get_or_read}
 use Rattle.co_rns.specs.Spectra.{PairValues, IsPairSumWithAll}
 use Rattle.co_switch.proofs.products.add_three.Goals as goal

@@ -1,8 +1,7 @@
-use Rattle.std.proofs.Common.{ℕ, ◌≡◌, ◌+◌, ◌*◌, ◌<◌, ◌∙◌, sym, ap, subst, arith}
+use Rattle.std.proofs.Common.{ℕ, ◌≡◌, ◌+◌, ◌*◌, ◌<◌, ◌∙◌, sym, subst, arith}
 use Rattle.co_math.specs.Parameters.{digit_count}
 use Rattle.co_math.specs.Coefficients.{IsDegree, coefficients}
-use Rattle.co_rns.specs.Spectra.{IsNoPairSum, PairValues}
-use Rattle.co_switch.specs.Keys.{AreOfDegree}
+use Rattle.co_rns.specs.Spectra.{IsNoPairSum}
 use Rattle.co_switch.specs.Switches.{digit_polynomial, digit_sum}
 use Rattle.co_switch.proofs.Spectral.{spectrum-len}
 use Rattle.co_switch.proofs.Adding.{AreGathered, gathered_first, gathered_three, gathered_all, digit_spectrum}
