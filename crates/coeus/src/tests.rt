@@ -11,7 +11,7 @@ use co_link::{
     Bytes, Dial, Exchange, FailNth, FailingCalls, Files, MemoryConnection, MemoryFiles, MemoryPort,
     MemorySink, MemorySource, Target,
 };
-use co_server::LocalLink;
+use co_server::{Loaded, LocalLink, Runs};
 use std::alloc::Global;
 use std::collections::BTreeMap;
 use std::process::Abort;
@@ -234,24 +234,51 @@ impl Desk {
     }
 }
 
-// Whether both runs of a case end as it says. Behind the dial is a session of its own.
+// Whether a run over this dial ends so.
+fn ends<T: Threads + Sync, D: Dial>(
+    rt: &T,
+    alloc: Global,
+    desk: &mut Desk,
+    dial: &mut D,
+    words: &[String],
+    end: &End<'_>,
+    library: &[u8],
+) -> bool {
+    let status = desk.run(rt, alloc, dial, words);
+    desk.stands(status, end, library)
+}
+
+// Whether both runs of a case end as it says, with a session of its own behind the dial.
+fn both_end<R: Runs, T: Threads + Sync + Abort>(
+    runs: &R,
+    rt: &T,
+    alloc: Global,
+    case: &Case<'_>,
+    loaded: &Loaded,
+    library: &[u8],
+) -> bool
+    requires { R.is_shared }
+{
+    let link = LocalLink::new(runs, alloc, loaded, 4);
+    let mut dial = FailNth::new(alloc, link, calls(rt, alloc, case, Device::Dial));
+    let mut desk = Desk::new(rt, alloc, library, case);
+    let words = words(rt, alloc, case.text);
+    let [once, twice] = case.ends;
+    let first = ends(rt, alloc, &mut desk, &mut dial, &words, &once, library);
+    let asked_first = are_asked(dial.inner().exchanges(), once.asked);
+    let second = ends(rt, alloc, &mut desk, &mut dial, &words, &twice, library);
+    let asked_second = are_asked(dial.inner().exchanges(), twice.asked);
+    first && asked_first && second && asked_second
+}
+
+// Whether both runs of a case end as it says.
 fn ends_twice<T: Threads + Sync + Abort>(rt: &T, alloc: Global, case: &Case<'_>) -> bool {
     let mut published = published(rt, alloc, case.degree);
     let library = published.read("lib", 65_536).expect(rt, "a library");
-    let Ok(loaded) = load(alloc, "lib", &mut published) else {
-        return false;
-    };
-    let link = LocalLink::new(rt, alloc, &loaded, 4);
-    let mut dial = FailNth::new(alloc, link, calls(rt, alloc, case, Device::Dial));
-    let mut desk = Desk::new(rt, alloc, library.as_slice(), case);
-    let words = words(rt, alloc, case.text);
-    let mut same = true;
-    for end in &case.ends {
-        let status = desk.run(rt, alloc, &mut dial, &words);
-        same = same && desk.stands(status, end, library.as_slice());
-        same = same && are_asked(dial.inner().exchanges(), end.asked);
+    match load(alloc, "lib", &mut published) {
+        Ok(loaded) => both_end(rt, rt, alloc, case, &loaded, library.as_slice()),
+        Err(_) => false,
     }
-    same
 }
 
 // A run at degree 16 that has this status, leaves the output and says a line; and again, which
