@@ -185,7 +185,7 @@ module _ (run : Search) (was : Option (List Exchange)) where
 
   -- what holds of the published numbers
   pub has-ranges : (now : Option (List Exchange)) (reader : ReaderState) (hits : List Ranked) (unknown : List (List ℕ)) (rest : Stream) → HasRanked now reader hits unknown rest → HasRanges reader.shape
-  has-ranges now reader hits unknown rest h = ranges reader.shape h.scored.good.good.ranges
+  has-ranges now reader hits unknown rest h = ranges reader.shape h.scored.begun.good.good.ranges
 
   pub ranked-told : (now : Option (List Exchange)) (reader : ReaderState) (hits : List Ranked) (unknown : List (List ℕ)) (rest left : Stream) → HasRanked now reader hits unknown rest → Told run was now (Err OutOfMemory) left
   ranked-told now reader hits unknown rest left h = scored-told run was now reader.shape hits unknown rest left h.scored
@@ -200,13 +200,13 @@ module _ (run : Search) (was : Option (List Exchange)) where
     pub places : List ℕ
     pub placed : IsPlacedAt reader.shape hits placing places
     pub replies : List Ciphertext
-    pub came : Comes mid now (record_request reader.shape ranked.scored.messages (rows_at reader.shape places) run.stream) (reply_with 200 reply)
+    pub came : Comes mid now (record_request reader.shape ranked.scored.begun.messages (rows_at reader.shape places) run.stream) (reply_with 200 reply)
     pub spelled : SpellsCiphers reader.shape.degree (bucket_count reader.shape.hits * record_chunks reader.shape.degree) replies reply
-    pub left : rest ≡ after_records reader.shape ranked.scored.messages (rows_at reader.shape places) run.stream
+    pub left : rest ≡ after_records reader.shape ranked.scored.begun.messages (rows_at reader.shape places) run.stream
 
   module _ (mid now : Option (List Exchange)) (reader : ReaderState) (hits : List Ranked) (unknown : List (List ℕ)) (stream : Stream) (placing : Placing) (places : List ℕ) (b : HasRanked mid reader hits unknown stream)
       (placed : IsPlacedAt reader.shape hits placing places) where
-    same-request : queries_request targets_of.Meta reader.secret (record_messages reader.shape (rows_at reader.shape places)) stream ≡ record_request reader.shape b.scored.messages (rows_at reader.shape places) run.stream
+    same-request : queries_request targets_of.Meta reader.secret (record_messages reader.shape (rows_at reader.shape places)) stream ≡ record_request reader.shape b.scored.begun.messages (rows_at reader.shape places) run.stream
     same-request = λ t. queries_request targets_of.Meta (b.secret t) (record_messages reader.shape (rows_at reader.shape places)) (b.scored.left t)
 
     pub gather-told : {T : Type 0} (before : ℕ) (fault : SearchFault) (left : Stream)
@@ -237,7 +237,7 @@ module _ (run : Search) (was : Option (List Exchange)) where
     s = reader.shape
 
     abbrev ms : List (List ℕ)
-    ms = g.ranked.scored.messages
+    ms = g.ranked.scored.begun.messages
 
     abbrev rows : List ℕ
     rows = rows_at reader.shape g.places
@@ -291,9 +291,9 @@ module _ (run : Search) (was : Option (List Exchange)) where
       -- the bin came
       pub record HasFetched (last : Option (List Exchange)) (reply5 : List ℕ) (left : Stream) : Type 0 where
         pub replies : List Ciphertext
-        pub came : Comes now last (bin_request reader.shape g.ranked.scored.messages (rows_at reader.shape g.places) (bin_asked (picked_record records run.pick)) run.stream) (reply_with 200 reply5)
+        pub came : Comes now last (bin_request reader.shape g.ranked.scored.begun.messages (rows_at reader.shape g.places) (bin_asked (picked_record records run.pick)) run.stream) (reply_with 200 reply5)
         pub spelled : SpellsCiphers reader.shape.degree reader.shape.chunks replies reply5
-        pub left_is : left ≡ after_all reader.shape g.ranked.scored.messages (rows_at reader.shape g.places) (bin_asked (picked_record records run.pick)) run.stream
+        pub left_is : left ≡ after_all reader.shape g.ranked.scored.begun.messages (rows_at reader.shape g.places) (bin_asked (picked_record records run.pick)) run.stream
 
       pub fetches : (last : Option (List Exchange)) (at : ℕ) (reply5 : List ℕ) (left : Stream) → at ≡ bin_asked (picked_record records run.pick)
           → Gives reader.shape.degree reader.shape.chunks now last (queries_request targets_of.Document reader.secret (bin_messages reader.shape at) rest) reply5 → left ≡ queries_rest reader.secret (bin_messages reader.shape at) rest → HasFetched last reply5 left
@@ -326,6 +326,6 @@ module _ (run : Search) (was : Option (List Exchange)) where
         all-told body rs shown_records shown answer eb er es ers eh eu h =
             let same : picked_read reader.secret f.replies (picked_record rs run.pick) ≡ picked_read (secret_of run s) f.replies (picked_record records run.pick) = λ t. picked_read (g.ranked.secret t) f.replies (picked_record (er t) run.pick) in
             concluded-told run was g.mid s hits unknown g.stream g.ranked.scored placing rows g.placed.placed rows_are long now reply g.replies g.came g.spelled records found last reply5 f.replies f.came f.spelled answer left
-            (eh ∙ (λ t. hits_shown (es t) (ers t))) (eu ∙ g.ranked.scored.unknown_are)
+            (eh ∙ (λ t. hits_shown (es t) (ers t))) (eu ∙ g.ranked.scored.begun.unknown_are)
             (sym same ∙ h f.replies (subst (λ (x : List ℕ). SpellsCiphers s.degree s.chunks f.replies x) (sym eb) f.spelled))
             f.left_is

@@ -13,7 +13,7 @@ use Rattle.co_rounds.specs.Answers.{reply_with}
 use Rattle.co_client.specs.Rounds.{Comes, ComesNone, RefusesStatus}
 use Rattle.co_client.specs.declared.publishing.Published.{Published}
 use Rattle.co_client.specs.declared.fault.SearchFault.{SearchFault}
-use Rattle.co_client.specs.declared.fault.SearchFault.TheVariants.{TooManyKeywords, BadPublic, Test, NoPlacement, Link, Refused, BadReply, WrongRecord, BadPlace, NotByte, BadRecord, OutOfMemory}
+use Rattle.co_client.specs.declared.fault.SearchFault.TheVariants.{BadPublic, Test, Link, Refused, OutOfMemory}
 
 -- the request for them
 abbrev pub public_request : Request
@@ -60,10 +60,4 @@ PublicFails was now (BadPublic place) = RefusesPublic was now place
 PublicFails was now (Test fault) = FailsTest was now fault
 PublicFails was now Link = ComesNone was now
 PublicFails was now OutOfMemory = ComesNone was now ⊎ ComesPublic was now
-PublicFails was now (BadReply target place) = ⊥
-PublicFails was now (TooManyKeywords found) = ⊥
-PublicFails was now (NoPlacement documents buckets) = ⊥
-PublicFails was now (WrongRecord wanted found) = ⊥
-PublicFails was now (BadPlace document) = ⊥
-PublicFails was now (NotByte target reply place) = ⊥
-PublicFails was now (BadRecord document place) = ⊥
+PublicFails was now fault = ⊥

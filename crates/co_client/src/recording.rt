@@ -20,11 +20,9 @@ ghost use Rattle.co_client.specs.Records as readings;
 ghost use Rattle.co_client.specs.Records.{checked, record_read, records_read};
 ghost use Rattle.co_client.specs.Faults.{IsReadAs};
 
-use crate::asking::ask;
 use crate::fault::SearchFault;
-use crate::querying::put_row;
-use crate::reading::{check_reply, open_part};
-use crate::scoring::LEAST_LIMIT;
+use crate::querying::{ask_ciphers, put_row};
+use crate::reading::open_part;
 use crate::starting::Reader;
 use co_bucket::buckets;
 use co_link::{Bytes, Link, Target};
@@ -33,7 +31,7 @@ use co_noise::Shape;
 use co_pack::{Place, RECORD_BYTES, Record, RecordFault, read_record};
 use co_ring::Degree;
 use co_text::Ranked;
-use co_wire::{record_chunks, reply_length, request_length};
+use co_wire::{record_chunks, request_length};
 use rand_core::Rng;
 use std::alloc::{AllocError, Global};
 
@@ -101,21 +99,12 @@ pub fn gather<K: Link, R: Rng>(
     ensures ready { K.is_ready link.new ≡ true }
     ensures beside { K.beside link.new ≡ K.beside link.old }
 {
-    let shape = reader.tested().shape();
-    let degree = Degree::of(shape.degree() as usize);
     let Ok(queries) = record_queries(alloc, reader, places, rng) else {
         return Err(SearchFault::OutOfMemory);
     };
-    let limit = reply_length(reader.tested(), Target::Meta).max(LEAST_LIMIT);
-    let body = match ask(link, Target::Meta, queries, limit) {
-        Ok(body) => body,
-        Err(fault) => return Err(fault),
-    };
+    let shape = reader.tested().shape();
     let count = buckets(shape.hits()) * record_chunks(shape.degree());
-    match check_reply(alloc, degree, count, Target::Meta, body.as_slice()) {
-        Ok(()) => Ok(body),
-        Err(fault) => Err(fault),
-    }
+    ask_ciphers(alloc, link, reader, Target::Meta, queries, count)
 }
 
 /// Whether a place is inside the bins.
