@@ -65,6 +65,9 @@ records-faults s secret cs placed rank (h ∷ hs) =
     then-faults (IsFound Meta) (record_read s secret cs (bucket_of placed rank) h.document) (λ r. records_read s secret cs placed (rank + 1) hs >>= λ rs. Ok (r ∷ rs)) (record-faults s secret cs (bucket_of placed rank) h.document)
     (λ r. then-faults (IsFound Meta) (records_read s secret cs placed (rank + 1) hs) (λ rs. Ok (r ∷ rs)) (records-faults s secret cs placed (rank + 1) hs) (λ rs. tt))
 
+pub read-fault : (s : Numbers) (secret : List ℤ) (cs : List Ciphertext) (placed : List (Option ℕ)) (hits : List Ranked) (fault : SearchFault) → records_read s secret cs placed 0 hits ≡ Err fault → IsFound Meta fault
+read-fault s secret cs placed hits fault is = subst (λ (r : Result (List Record) SearchFault). Faults (IsFound Meta) r) is (records-faults s secret cs placed 0 hits)
+
 picked-faults : (secret : List ℤ) (cs : List Ciphertext) (picked : Option Record) → Faults (IsFound Document) (picked_read secret cs picked)
 unfolding text_read
 picked-faults secret cs None = tt
@@ -98,7 +101,7 @@ found-refusal run es (bad_place document) cause = record { cause = cause; open_e
 found-refusal run es (bad_record document place) cause = record { cause = cause; open_end = λ a. a; begun_is = λ n. refl }
 
 -- want of memory is free, and each other fault is the one that reading finds
-want-or-not : (fault : SearchFault) → (fault ≡ OutOfMemory) ⊎ (is_want fault ≡ false)
+pub want-or-not : (fault : SearchFault) → (fault ≡ OutOfMemory) ⊎ (is_want fault ≡ false)
 want-or-not OutOfMemory = inl refl
 want-or-not fault = inr refl
 
@@ -111,7 +114,7 @@ record-refusal run es s secret cs placed hits fault h bad =
     ⊎_elim (λ e. memory-refusal run es fault e)
     (λ w.
     let is = h w in
-    let of : IsFound Meta fault = subst (λ (r : Result (List Record) SearchFault). Faults (IsFound Meta) r) is (records-faults s secret cs placed 0 hits) in
+    let of = read-fault s secret cs placed hits fault is in
     found-refusal run es of (record-cause run es of (bad is)))
     (want-or-not fault)
 
