@@ -13,7 +13,7 @@ use Rattle.co_text.specs.declared.ranks.Ranked.{Ranked}
 use Rattle.co_rounds.specs.Placing.{document_start}
 use Rattle.co_rounds.specs.Recording.{is_within_bins, bucket_replies}
 use Rattle.co_client.specs.declared.fault.SearchFault.{SearchFault}
-use Rattle.co_client.specs.declared.fault.SearchFault.TheVariants.{WrongRecord, BadPlace, NotByte, BadRecord, OutOfMemory}
+use Rattle.co_client.specs.declared.fault.SearchFault.TheVariants.{Link, WrongRecord, BadPlace, NotByte, BadRecord, OutOfMemory}
 use Rattle.co_client.specs.Causes.{Search, IsCause, IsAnswered, HasBadRecord, HasBadText}
 use Rattle.co_client.specs.Earlier.{begun}
 use Rattle.co_client.specs.Faults.{is_want}
@@ -25,6 +25,20 @@ pub data IsFound : Target → SearchFault → Type 0 where
   wrong_record : (wanted found : ℕ) → IsFound Meta (WrongRecord wanted found)
   bad_place : (document : ℕ) → IsFound Meta (BadPlace document)
   bad_record : (document place : ℕ) → IsFound Meta (BadRecord document place)
+
+-- none of them is the link's
+abbrev Unlinked : SearchFault → Type 0
+Unlinked Link = ⊥
+Unlinked fault = Unit {0}
+
+unlinked : {target : Target} {fault : SearchFault} → IsFound target fault → Unlinked fault
+unlinked (not_byte reply place) = tt
+unlinked (wrong_record wanted found) = tt
+unlinked (bad_place document) = tt
+unlinked (bad_record document place) = tt
+
+pub not-link : {target : Target} → IsFound target Link → ⊥
+not-link h = unlinked h
 
 -- each fault of a result is such
 abbrev Faults : {A : Type 0} → (SearchFault → Type 0) → Result A SearchFault → Type 0

@@ -1,9 +1,10 @@
 -- The round of the records, by what its calls give.
 use Rattle.std.proofs.Common.{◌≡◌, ◌⊎◌, ℕ, ◌*◌, ◌<◌, ◌≤◌, inl, inr, refl, sym, ap, subst, ◌∙◌, ⊎_elim, arith, List, [], length, map, Option, Some, None, Result, Ok, Err}
-use Rattle.std.specs.Prelude.{All, slice_index_or, IfOk, IfErr}
+use Rattle.std.specs.Prelude.{All, slice_index_or, IfOk, IfErr, OnOk}
 use Rattle.std.proofs.lemmas.Option.{none-some}
 use Rattle.std.proofs.lemmas.List.{length-map}
 use Rattle.rand_core.specs.Stream.{Stream}
+use Rattle.co_link.specs.Exchanges.{LinkCall}
 use Rattle.co_link.specs.declared.messages.Target.TheVariants.{Meta}
 use Rattle.co_link.specs.declared.messages.Request.{Request}
 use Rattle.co_link.specs.declared.messages.Exchange.{Exchange}
@@ -19,21 +20,21 @@ use Rattle.co_rounds.specs.Answers.{reply_with}
 use Rattle.co_rounds.specs.Placing.{rows_asked}
 use Rattle.co_client.specs.declared.ranking.Ranked.{Ranked}
 use Rattle.co_client.specs.declared.fault.SearchFault.{SearchFault}
-use Rattle.co_client.specs.declared.fault.SearchFault.TheVariants.{WrongRecord, BadPlace, NotByte, BadRecord, OutOfMemory}
+use Rattle.co_client.specs.declared.fault.SearchFault.TheVariants.{Link, WrongRecord, BadPlace, NotByte, BadRecord, OutOfMemory}
 use Rattle.co_client.specs.Faults.{is_want, IsReadAs}
 use Rattle.co_client.specs.Gathered.{with_bins, records_request, ReadsReplies, RecordsFail}
 use Rattle.co_client.specs.Placings.{ArePlaced, shown_of, HaveBuckets, places_asked}
 use Rattle.co_client.specs.Records.{records_read}
-use Rattle.co_client.specs.Rounds.{ReaderState, Comes, Gives, RoundFails, queries_request, record_messages}
+use Rattle.co_client.specs.Rounds.{ReaderState, Comes, Gives, RoundFails, LinkFails, queries_request, record_messages}
 use Rattle.co_client.proofs.Placed.{rows-are, free-rows}
 use Rattle.co_client.proofs.Placed_hits.{bucket_within, placed_there}
-use Rattle.co_client.proofs.RecordFaults.{IsFound, not_byte, wrong_record, bad_place, bad_record, want-or-not, read-fault}
+use Rattle.co_client.proofs.RecordFaults.{IsFound, not_byte, wrong_record, bad_place, bad_record, want-or-not, read-fault, not-link}
 use Rattle.co_client.proofs.Score_round.{memory-round}
 
-abbrev Hits : Type 0
+abbrev pub Hits : Type 0
 Hits = List hits_of.Ranked
 
-abbrev Refused : Type 0
+abbrev pub Refused : Type 0
 Refused = Option (List ℕ × List ℕ)
 
 -- ---- placed hits
@@ -91,7 +92,7 @@ module _ (reader : ReaderState) (ranked : Ranked) (bins : ℕ) (was now : Option
     reads records e = record { body = body; comes = gives.comes; replies = gives.spelled.ciphers; spelled = gives.spelled.spelled; are = sym e }
 
     -- what is read of the replies
-    abbrev Read : Result (List Record) SearchFault → Type 0
+    abbrev pub Read : Result (List Record) SearchFault → Type 0
     Read result = (cs : List Ciphertext) (all : ℕ) → SpellsCiphers reader.shape.degree all cs body → IsReadAs result (records_read (with_bins reader.shape bins) reader.secret cs ranked.buckets 0 (shown_of ranked.refused ranked.hits))
 
     pub records-read : (result : Result (List Record) SearchFault) → Read result → IfOk result (λ records. ReadsReplies reader ranked bins was now stream (Ok records))
@@ -106,3 +107,17 @@ module _ (reader : ReaderState) (ranked : Ranked) (bins : ℕ) (was now : Option
         let is = h gives.spelled.ciphers (bucket_count reader.shape.hits * record_chunks reader.shape.degree) gives.spelled.spelled w in
         found-fails (read-fault (with_bins reader.shape bins) reader.secret gives.spelled.ciphers ranked.buckets (shown_of ranked.refused ranked.hits) fault is) (reads (Err fault) is))
         (want-or-not fault)
+
+    -- no fault of the records is the link's
+    pub link-fails : (before after : ℕ) (is : Option LinkCall) (call : LinkCall) (result : Result (List Record) SearchFault) → before ≤ after → Read result → LinkFails before after is call result
+    link-fails before after is call result later h = record {
+      later = later;
+      failed = λ e.
+          let read = subst (λ (r : Result (List Record) SearchFault). Read r) e h in
+          let is = read gives.spelled.ciphers (bucket_count reader.shape.hits * record_chunks reader.shape.degree) gives.spelled.spelled refl in
+          absurd (not-link (read-fault (with_bins reader.shape bins) reader.secret gives.spelled.ciphers ranked.buckets (shown_of ranked.refused ranked.hits) Link is));
+    }
+
+pub on-ok : {P : Type 0} (result : Result (List Record) SearchFault) → P → OnOk result P
+on-ok (Ok records) p = p
+on-ok (Err fault) p = tt

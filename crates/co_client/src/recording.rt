@@ -106,7 +106,8 @@ fn gather<K: Link, R: Rng>(
         return Err(SearchFault::OutOfMemory);
     };
     let shape = reader.tested().shape();
-    let count = buckets(shape.hits()) * record_chunks(shape.degree());
+    let degree = shape.degree();
+    let count = buckets(shape.hits()) * record_chunks(degree);
     ask_ciphers(alloc, link, reader, Target::Meta, queries, count)
 }
 
