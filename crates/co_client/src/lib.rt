@@ -25,6 +25,7 @@ mod starting;
 mod tests;
 
 pub use fault::SearchFault;
+pub use placing::Witness;
 pub use ranking::{Ranked, rank};
 pub use recording::records;
 pub use searching::search;
