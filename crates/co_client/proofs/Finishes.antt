@@ -8,7 +8,6 @@ use Rattle.co_link.specs.declared.messages.Target.TheVariants as targets_of
 use Rattle.co_link.specs.declared.messages.Reply.{Reply}
 use Rattle.co_link.specs.declared.messages.Exchange.{Exchange}
 use Rattle.co_noise.specs.Shapes.{Numbers, document_blocks}
-use Rattle.co_noise.specs.Bounds.{test_of}
 use Rattle.co_bfv.specs.Ciphertexts.{Ciphertext}
 use Rattle.co_bucket.specs.Lists.{bucket_count}
 use Rattle.co_bucket.specs.Bytes.{record_chunks}
@@ -16,15 +15,13 @@ use Rattle.co_bucket.specs.Placement.{IsPlacement}
 use Rattle.co_bucket.proofs.OneAnswer.{same_placement, refuses}
 use Rattle.co_pack.specs.declared.records.Record.{Record}
 use Rattle.co_text.specs.Terms.{distinct}
-use Rattle.co_text.specs.Numbers.{numbers_of, unknown_in}
+use Rattle.co_text.specs.Numbers.{unknown_in}
 use Rattle.co_text.specs.declared.found.Found.{Found}
 use Rattle.co_text.specs.declared.ranks.Ranked.{Ranked}
 use Rattle.co_text.specs.Ranking.{ranking}
 use Rattle.co_wire.specs.Bodies.{SpellsCiphers}
-use Rattle.co_wire.specs.Public.{ArePublic, public_of}
 use Rattle.co_wire.specs.Lengths.{reply_size, reply_limit}
 use Rattle.co_rounds.specs.Answers.{reply_with}
-use Rattle.co_rounds.specs.Asked.{AreKeywordMessages}
 use Rattle.co_rounds.specs.Plans.{targets}
 use Rattle.co_rounds.specs.Placing.{choices_of, rows_asked, IsUnplaced}
 use Rattle.co_rounds.specs.Scoring.{scores_read}

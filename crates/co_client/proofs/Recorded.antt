@@ -1,12 +1,11 @@
 -- The round of the records, by what its calls give.
 use Rattle.std.proofs.Common.{◌≡◌, ◌⊎◌, ℕ, ◌*◌, ◌<◌, ◌≤◌, inl, inr, refl, sym, ap, subst, ◌∙◌, ⊎_elim, arith, List, [], length, map, Option, Some, None, Result, Ok, Err}
-use Rattle.std.specs.Prelude.{All, slice_index_or, IfOk, IfErr, OnOk}
+use Rattle.std.specs.Prelude.{slice_index_or, IfOk, IfErr, OnOk}
 use Rattle.std.proofs.lemmas.Option.{none-some}
 use Rattle.std.proofs.lemmas.List.{length-map}
 use Rattle.rand_core.specs.Stream.{Stream}
 use Rattle.co_link.specs.Exchanges.{LinkCall}
 use Rattle.co_link.specs.declared.messages.Target.TheVariants.{Meta}
-use Rattle.co_link.specs.declared.messages.Request.{Request}
 use Rattle.co_link.specs.declared.messages.Exchange.{Exchange}
 use Rattle.co_noise.specs.Shapes.{Numbers}
 use Rattle.co_bfv.specs.Ciphertexts.{Ciphertext}
@@ -16,16 +15,15 @@ use Rattle.co_pack.specs.declared.records.Record.{Record}
 use Rattle.co_text.specs.declared.ranks.Ranked as hits_of
 use Rattle.co_wire.specs.Bodies.{SpellsCiphers}
 use Rattle.co_wire.specs.Lengths.{reply_size}
-use Rattle.co_rounds.specs.Answers.{reply_with}
 use Rattle.co_rounds.specs.Placing.{rows_asked}
 use Rattle.co_client.specs.declared.ranking.Ranked.{Ranked}
 use Rattle.co_client.specs.declared.fault.SearchFault.{SearchFault}
-use Rattle.co_client.specs.declared.fault.SearchFault.TheVariants.{Link, WrongRecord, BadPlace, NotByte, BadRecord, OutOfMemory}
-use Rattle.co_client.specs.Faults.{is_want, IsReadAs}
+use Rattle.co_client.specs.declared.fault.SearchFault.TheVariants.{Link, WrongRecord, BadPlace, NotByte, BadRecord}
+use Rattle.co_client.specs.Faults.{IsReadAs}
 use Rattle.co_client.specs.Gathered.{with_bins, records_request, ReadsReplies, RecordsFail}
 use Rattle.co_client.specs.Placings.{ArePlaced, shown_of, HaveBuckets, places_asked}
 use Rattle.co_client.specs.Records.{records_read}
-use Rattle.co_client.specs.Rounds.{ReaderState, Comes, Gives, RoundFails, LinkFails, queries_request, record_messages}
+use Rattle.co_client.specs.Rounds.{ReaderState, Gives, RoundFails, LinkFails}
 use Rattle.co_client.proofs.Placed.{rows-are, free-rows}
 use Rattle.co_client.proofs.Placed_hits.{bucket_within, placed_there}
 use Rattle.co_client.proofs.RecordFaults.{IsFound, not_byte, wrong_record, bad_place, bad_record, want-or-not, read-fault, not-link}

@@ -84,9 +84,7 @@ fn list_of(alloc: Global, numbers: &BTreeSet<u32>) -> Result<Numbers, AllocError
 fn free_buckets(alloc: Global, count: u32) -> Result<Placement, AllocError>
     ensures { IfOk result (AreFree count) }
 {
-    Ok(Placement::from_vec(
-        vec![in alloc; None; count as usize]?,
-    ))
+    Ok(Placement::from_vec(vec![in alloc; None; count as usize]?))
 }
 
 /// Places the hits of a search, each in one of its candidate buckets, no two in one.

@@ -18,8 +18,7 @@ use crate::starting::Reader;
 use co_bucket::Placement;
 use co_link::Link;
 use co_list::Listed;
-use co_text::Ranked as RankedDocument;
-use co_text::{Terms, numbers_of, unknown_terms};
+use co_text::{Ranked as RankedDocument, Terms, numbers_of, unknown_terms};
 use rand_core::Rng;
 use std::alloc::Global;
 

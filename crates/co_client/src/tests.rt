@@ -334,7 +334,10 @@ fn refuses_words_and_links(rt: HostRuntime) -> Result<(), Fail> {
 }
 
 /// A link whose first reply is that to the keys, with the reader that they make.
-fn started(alloc: Global, rng: &mut SplitMix64) -> Result<Option<(Reader, ScriptLink)>, AllocError> {
+fn started(
+    alloc: Global,
+    rng: &mut SplitMix64,
+) -> Result<Option<(Reader, ScriptLink)>, AllocError> {
     let [_, keys, scores, records, _] = bodies(alloc, 3, RECORD, b"sea tide")?;
     let mut replies = Vec::new(alloc);
     for body in [keys, scores, records] {

@@ -1,7 +1,6 @@
 use Rattle.std.proofs.Common.{◌≡◌, ℕ, ◌<◌, ◌*◌, ◌∙◌, sym, ap, subst, arith, List, length, map, Option, Some, None, Result}
 use Rattle.std.specs.Prelude.{slice_index_or}
 use Rattle.co_link.specs.declared.messages.Target.TheVariants.{Meta}
-use Rattle.co_noise.specs.Shapes.{Numbers}
 use Rattle.co_bucket.specs.Lists.{bucket_count}
 use Rattle.co_bucket.specs.Bytes.{record_chunks, record_row}
 use Rattle.co_pack.specs.declared.records.Record.{Record}
