@@ -4,13 +4,12 @@
 ghost use Rattle.std.specs.Prelude.{◌≤◌};
 
 use super::*;
+use crate::publishing::consult;
 use co_link::{Bytes, FailNth, FailingCalls, Reply, ScriptLink, Target};
 use co_list::Listed;
 use co_math::parameters::{FIRST_MODULUS, PLAIN_MODULUS, SECOND_MODULUS};
-use co_noise::test;
 use co_pack::Record;
 use co_text::query_terms;
-use co_wire::read_public;
 use rand_core::SeedableRng;
 use rand_xoshiro::SplitMix64;
 use std::alloc::{AllocError, Global};
@@ -341,22 +340,19 @@ fn records_within(
     alloc: Global,
     bins: u32,
 ) -> Result<Option<(Ranked, Result<Listed<Record>, SearchFault>)>, AllocError> {
-    let Ok((shape, terms)) = read_public(alloc, PUBLIC) else {
-        return Ok(None);
-    };
-    let Ok(tested) = test(&shape) else {
-        return Ok(None);
-    };
-    let [_, keys, scores, rows, bin] = bodies(alloc, 3, RECORD, b"sea tide")?;
-    let mut link = link(alloc, [keys, scores, rows, bin, Vec::new(alloc)])?;
+    let mut link = link(alloc, bodies(alloc, 3, RECORD, b"sea tide")?)?;
     let mut rng = SplitMix64::seed_from_u64(7);
-    let Ok(reader) = start(alloc, &mut link, &mut rng, &tested) else {
+    let Ok(published) = consult(alloc, &mut link) else {
+        return Ok(None);
+    };
+    let Ok(reader) = start(alloc, &mut link, &mut rng, &published.tested) else {
         return Ok(None);
     };
     let Ok(query) = query_terms(alloc, "sea wind") else {
         return Ok(None);
     };
-    let Ok(ranked) = rank(alloc, &reader, &mut link, &mut rng, &terms, &query) else {
+    let terms = &published.terms;
+    let Ok(ranked) = rank(alloc, &reader, &mut link, &mut rng, terms, &query) else {
         return Ok(None);
     };
     let read = records(alloc, &reader, &mut link, &mut rng, &ranked, bins);
