@@ -13,6 +13,6 @@ rank-requires-clause-few c =
     let good = c.in-Ok.ensures.found.public.good in
     omega (arith, good.count, (ranges c.in-Ok.published.tested good.good.ranges).terms_high)
 
-pub records-requires-clause-rows : goal.records-requires-clause-rows
-records-requires-clause-rows c =
+pub records-read-requires-clause-rows : goal.records-read-requires-clause-rows
+records-read-requires-clause-rows c =
     subst (λ (x : ReaderState). x.shape.rows ≡ rows_of x.shape.degree x.shape.documents x.shape.hits x.shape.salt) (sym c.in-Ok-start.ensures.reader) c.in-Ok.ensures.found.public.good.good.rows
