@@ -1,4 +1,4 @@
-use Rattle.std.proofs.Common.{◌≡◌, ◌≤◌, sym, subst, arith}
+use Rattle.std.proofs.Common.{◌≡◌, sym, subst, arith}
 use Rattle.co_bucket.specs.Rows.{rows_of}
 use Rattle.co_noise.proofs.Ranges.{ranges}
 use Rattle.co_client.specs.Rounds.{ReaderState}
