@@ -1,13 +1,13 @@
 //! Sums of products of ciphertexts and plain polynomials.
 
-ghost use Rattle.std.specs.Prelude.{ℕ, ℤ, List, ◌≡◌, ◌+◌, ◌<◌, length, IfOk};
+ghost use Rattle.std.specs.Prelude.{ℕ, ℤ, List, ◌≡◌, ◌+◌, ◌<◌, ◌≤◌, length, IfOk};
 ghost use Rattle.co_math.specs.Coefficients.{IsDegree};
 ghost use Rattle.co_math.specs.Polynomials.{IsWrapped, plus, unit};
 ghost use Rattle.co_ring.specs.Product_sums.{most_products};
 ghost use Rattle.co_rns.specs.Spectra.{IsPairSumOf, IsSpectrumOf, spectrum_degree};
 ghost use Rattle.co_bfv.specs.Ciphertexts.{Ciphertext, ciphertext_degree, ciphertext_sum, plain_product, zero_ciphertext};
 ghost use Rattle.co_spectra.specs.Values.{AreCipherValues, AreOfDegree, ArePlainValues};
-ghost use Rattle.co_spectra.specs.Sums.{IsCipherSumOf};
+ghost use Rattle.co_spectra.specs.Sums.{IsCipherSumOf, four_added};
 
 use crate::values::CipherSpectrum;
 use co_bfv::Cipher;
@@ -115,6 +115,46 @@ impl CipherSum {
         self.c0.add_product(&turned.c0, plain);
         self.c1.add_product(&turned.c1, plain);
         self.count += 1;
+    }
+
+    /// Adds four products, each of a ciphertext and the plain polynomial after it, in one pass.
+    pub fn add_four(
+        &mut self,
+        a: &CipherSpectrum,
+        b: &PairSpectrum,
+        c: &CipherSpectrum,
+        d: &PairSpectrum,
+        e: &CipherSpectrum,
+        f: &PairSpectrum,
+        g: &CipherSpectrum,
+        h: &PairSpectrum,
+    )
+        requires few { self.old.c0.count + 4 ≤ most_products }
+        requires a_degree { AreOfDegree self.old.degree a.now }
+        requires b_degree { spectrum_degree b.now ≡ self.old.degree }
+        requires c_degree { AreOfDegree self.old.degree c.now }
+        requires d_degree { spectrum_degree d.now ≡ self.old.degree }
+        requires e_degree { AreOfDegree self.old.degree e.now }
+        requires f_degree { spectrum_degree f.now ≡ self.old.degree }
+        requires g_degree { AreOfDegree self.old.degree g.now }
+        requires h_degree { spectrum_degree h.now ≡ self.old.degree }
+        ensures products { (k k1 k2 k3 k4 : Ciphertext) (p1 p2 p3 p4 : List ℕ)
+            → IsCipherSumOf k self.old
+            → AreCipherValues self.old.degree k1 a.now
+            → ArePlainValues self.old.degree p1 b.now
+            → AreCipherValues self.old.degree k2 c.now
+            → ArePlainValues self.old.degree p2 d.now
+            → AreCipherValues self.old.degree k3 e.now
+            → ArePlainValues self.old.degree p3 f.now
+            → AreCipherValues self.old.degree k4 g.now
+            → ArePlainValues self.old.degree p4 h.now
+            → IsCipherSumOf (four_added k k1 k2 k3 k4 p1 p2 p3 p4) self.new }
+        ensures degree { self.new.degree ≡ self.old.degree }
+        ensures count { self.new.c0.count ≡ self.old.c0.count + 4 }
+    {
+        self.c0.add_four(&a.c0, b, &c.c0, d, &e.c0, f, &g.c0, h);
+        self.c1.add_four(&a.c1, b, &c.c1, d, &e.c1, f, &g.c1, h);
+        self.count += 4;
     }
 
     /// Reduces the sum where it takes no product more. The room is scratch, `one` has the values of
