@@ -128,19 +128,19 @@ read-good s ts body bytes e =
     (whole_takes (headed public_word fields) (λ (p : Numbers × List (List ℕ)). public_bytes p.0 p.1) (λ p. ArePublic p.0 p.1) public_format body (s, ts)
     (λ i. ⊎_elim (λ u. bytes i u) (λ u. subst (λ (x : ℕ). x < 256) (sym (get_or_past body i 0 u)) (omega arith)) (cases_lt i (length body))) e).1
 
-pub begun-of : (run : Search) (was now : Option (List Exchange)) (p : Published) → Consults (distinct run.query) was now p → length (distinct run.query) ≤ 16 → Begun run was now p.tested p.keywords p.unknown
+pub begun-of : (run : Search) (was now : Option (List Exchange)) (p : Published) → Consults was now p → length (distinct run.query) ≤ 16 → Begun run was now p.tested (numbers_of p.terms (distinct run.query)) (unknown_in p.terms (distinct run.query))
 begun-of run was now p c few =
     let s = p.tested in
-    let m = has-messages s (numbers_of c.terms (distinct run.query)) (degree-of s c.terms c.public.good) in
+    let m = has-messages s (numbers_of p.terms (distinct run.query)) (degree-of s p.terms c.public.good) in
     record {
-      terms = c.terms;
+      terms = p.terms;
       body = c.public.body;
       few = few;
       read = c.public.read;
       good = c.public.good;
       passes = c.passes;
-      keywords_are = c.keywords;
-      unknown_are = c.unknown;
+      keywords_are = refl;
+      unknown_are = refl;
       messages = m.messages;
       are = m.are;
       makes = makes-one was was now [] public_request (reply_with 200 c.public.body) (makes-none was) c.public.comes;

@@ -13,7 +13,7 @@ use Rattle.co_text.specs.declared.ranks.Ranked.{Ranked}
 use Rattle.co_rounds.specs.Placing.{document_start}
 use Rattle.co_rounds.specs.Recording.{is_within_bins, bucket_replies}
 use Rattle.co_client.specs.declared.fault.SearchFault.{SearchFault}
-use Rattle.co_client.specs.declared.fault.SearchFault.TheVariants.{WrongRecord, BadPlace, NotByte, BadRecord, OutOfMemory}
+use Rattle.co_client.specs.declared.fault.SearchFault.TheVariants.{Link, WrongRecord, BadPlace, NotByte, BadRecord, OutOfMemory}
 use Rattle.co_client.specs.Causes.{Search, IsCause, IsAnswered, HasBadRecord, HasBadText}
 use Rattle.co_client.specs.Earlier.{begun}
 use Rattle.co_client.specs.Faults.{is_want}
@@ -25,6 +25,20 @@ pub data IsFound : Target → SearchFault → Type 0 where
   wrong_record : (wanted found : ℕ) → IsFound Meta (WrongRecord wanted found)
   bad_place : (document : ℕ) → IsFound Meta (BadPlace document)
   bad_record : (document place : ℕ) → IsFound Meta (BadRecord document place)
+
+-- none of them is the link's
+abbrev Unlinked : SearchFault → Type 0
+Unlinked Link = ⊥
+Unlinked fault = Unit {0}
+
+unlinked : {target : Target} {fault : SearchFault} → IsFound target fault → Unlinked fault
+unlinked (not_byte reply place) = tt
+unlinked (wrong_record wanted found) = tt
+unlinked (bad_place document) = tt
+unlinked (bad_record document place) = tt
+
+pub not-link : {target : Target} → IsFound target Link → ⊥
+not-link h = unlinked h
 
 -- each fault of a result is such
 abbrev Faults : {A : Type 0} → (SearchFault → Type 0) → Result A SearchFault → Type 0
@@ -65,6 +79,9 @@ records-faults s secret cs placed rank (h ∷ hs) =
     then-faults (IsFound Meta) (record_read s secret cs (bucket_of placed rank) h.document) (λ r. records_read s secret cs placed (rank + 1) hs >>= λ rs. Ok (r ∷ rs)) (record-faults s secret cs (bucket_of placed rank) h.document)
     (λ r. then-faults (IsFound Meta) (records_read s secret cs placed (rank + 1) hs) (λ rs. Ok (r ∷ rs)) (records-faults s secret cs placed (rank + 1) hs) (λ rs. tt))
 
+pub read-fault : (s : Numbers) (secret : List ℤ) (cs : List Ciphertext) (placed : List (Option ℕ)) (hits : List Ranked) (fault : SearchFault) → records_read s secret cs placed 0 hits ≡ Err fault → IsFound Meta fault
+read-fault s secret cs placed hits fault is = subst (λ (r : Result (List Record) SearchFault). Faults (IsFound Meta) r) is (records-faults s secret cs placed 0 hits)
+
 picked-faults : (secret : List ℤ) (cs : List Ciphertext) (picked : Option Record) → Faults (IsFound Document) (picked_read secret cs picked)
 unfolding text_read
 picked-faults secret cs None = tt
@@ -98,7 +115,7 @@ found-refusal run es (bad_place document) cause = record { cause = cause; open_e
 found-refusal run es (bad_record document place) cause = record { cause = cause; open_end = λ a. a; begun_is = λ n. refl }
 
 -- want of memory is free, and each other fault is the one that reading finds
-want-or-not : (fault : SearchFault) → (fault ≡ OutOfMemory) ⊎ (is_want fault ≡ false)
+pub want-or-not : (fault : SearchFault) → (fault ≡ OutOfMemory) ⊎ (is_want fault ≡ false)
 want-or-not OutOfMemory = inl refl
 want-or-not fault = inr refl
 
@@ -111,7 +128,7 @@ record-refusal run es s secret cs placed hits fault h bad =
     ⊎_elim (λ e. memory-refusal run es fault e)
     (λ w.
     let is = h w in
-    let of : IsFound Meta fault = subst (λ (r : Result (List Record) SearchFault). Faults (IsFound Meta) r) is (records-faults s secret cs placed 0 hits) in
+    let of = read-fault s secret cs placed hits fault is in
     found-refusal run es of (record-cause run es of (bad is)))
     (want-or-not fault)
 

@@ -45,11 +45,11 @@ fails-asked size was now target body bytes result b h = subst (λ (x : List ℕ)
 
 -- the most bytes of a reply to queries
 pub limit-is : (s : Numbers) (target : Target) → target ≢ Public → target ≢ Keys → max (reply_size s target) 256 ≡ reply_limit s target
-limit-is s Public no not = absurd (no refl)
-limit-is s Keys no not = refl
-limit-is s Score no not = omega arith
-limit-is s Meta no not = omega arith
-limit-is s Document no not = omega arith
+limit-is s Public public keys = absurd (public refl)
+limit-is s Keys public keys = refl
+limit-is s Score public keys = omega arith
+limit-is s Meta public keys = omega arith
+limit-is s Document public keys = omega arith
 
 -- a failed link of one call, as that of a search
 err-conv : {A B : Type 0} (x y : SearchFault) → ◌≡◌ {A = Result A SearchFault} (Err x) (Err y) → ◌≡◌ {A = Result B SearchFault} (Err x) (Err y)

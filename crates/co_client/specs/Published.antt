@@ -7,7 +7,6 @@ use Rattle.co_math.specs.Coefficients.{AreBelow}
 use Rattle.co_noise.specs.Shapes.{Numbers}
 use Rattle.co_noise.specs.Bounds.{test_of}
 use Rattle.co_noise.specs.declared.testing.TestFault.{TestFault}
-use Rattle.co_text.specs.Numbers.{numbers_of, unknown_in}
 use Rattle.co_wire.specs.Public.{ArePublic, public_of}
 use Rattle.co_rounds.specs.Answers.{reply_with}
 use Rattle.co_client.specs.Rounds.{Comes, ComesNone, RefusesStatus}
@@ -26,13 +25,10 @@ pub record IsPublic (was now : Option (List Exchange)) (s : Numbers) (terms : Li
   pub read : public_of body ≡ Ok (s, terms)
   pub good : ArePublic s terms
 
--- what was published, where the numbers pass the test, and the query's terms in it
-pub record Consults (query : List (List ℕ)) (was now : Option (List Exchange)) (p : Published) : Type 0 where
-  pub terms : List (List ℕ)
-  pub public : IsPublic was now p.tested terms
+-- this was published, and the numbers pass the test
+pub record Consults (was now : Option (List Exchange)) (p : Published) : Type 0 where
+  pub public : IsPublic was now p.tested p.terms
   pub passes : test_of p.tested ≡ Ok p.tested
-  pub keywords : p.keywords ≡ numbers_of terms query
-  pub unknown : p.unknown ≡ unknown_in terms query
 
 -- the body is none of public bytes
 pub record RefusesPublic (was now : Option (List Exchange)) (place : ℕ) : Type 0 where

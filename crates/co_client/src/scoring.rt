@@ -202,7 +202,7 @@ fn read_scores(alloc: Global, reader: &Reader, body: &[u8]) -> Result<Vec<u32>, 
 
 /// Asks for the scores by keywords, which are numbers of terms, and ranks the documents by them.
 /// After an error the rest of the stream is not stated.
-pub fn rank<K: Link, R: Rng>(
+pub fn score_hits<K: Link, R: Rng>(
     alloc: Global,
     link: &mut K,
     rng: &mut R,

@@ -6,6 +6,9 @@ ghost use Rattle.std.specs.Prelude.{◌≤◌};
 use super::*;
 use co_link::{Bytes, FailNth, FailingCalls, Reply, ScriptLink, Target};
 use co_math::parameters::{FIRST_MODULUS, PLAIN_MODULUS, SECOND_MODULUS};
+use co_noise::test;
+use co_text::query_terms;
+use co_wire::read_public;
 use rand_core::SeedableRng;
 use rand_xoshiro::SplitMix64;
 use std::alloc::{AllocError, Global};
@@ -327,5 +330,62 @@ fn refuses_words_and_links(rt: HostRuntime) -> Result<(), Fail> {
             })
         )
     );
+    Ok(())
+}
+
+/// A link whose first reply is that to the keys, with the reader that they make.
+fn started(
+    alloc: Global,
+    rng: &mut SplitMix64,
+) -> Result<Option<(Reader, ScriptLink)>, AllocError> {
+    let [_, keys, scores, records, _] = bodies(alloc, 3, RECORD, b"sea tide")?;
+    let mut replies = Vec::new(alloc);
+    for body in [keys, scores, records] {
+        replies.push(Reply {
+            status: 200,
+            body: Bytes::from_vec(body),
+        })?;
+    }
+    let mut link = ScriptLink::new(alloc, replies, FailingCalls::none(alloc));
+    let Ok((shape, _)) = read_public(alloc, PUBLIC) else {
+        return Ok(None);
+    };
+    let Ok(tested) = test(&shape) else {
+        return Ok(None);
+    };
+    match start(alloc, &mut link, rng, &tested) {
+        Ok(reader) => Ok(Some((reader, link))),
+        Err(_) => Ok(None),
+    }
+}
+
+#[test]
+fn ranks_and_reads_records(rt: HostRuntime) -> Result<(), Fail> {
+    let alloc = rt.alloc();
+    for (bins, wanted) in [(1, true), (0, false)] {
+        let mut rng = SplitMix64::seed_from_u64(7);
+        let (reader, mut link) = started(alloc, &mut rng)?.expect(&rt, "a reader");
+        let (_, terms) = read_public(alloc, PUBLIC)?;
+        let query = query_terms(alloc, "sea wind")?;
+        let ranked = rank(alloc, &reader, &mut link, &mut rng, &terms, &query)?;
+        let hits = ranked.hits.as_slice();
+        assert_eq!(rt; hits.len(), 1);
+        assert_eq!(rt; (hits[0].document, hits[0].score), (0, 3));
+        assert_eq!(rt; ranked.unknown.len(), 1);
+        assert_eq!(rt; ranked.buckets.len(), 3);
+        assert!(rt; ranked.refused.is_none());
+        match records(alloc, &reader, &mut link, &mut rng, &ranked, bins) {
+            Ok(read) => {
+                assert!(rt; wanted);
+                assert_eq!(rt; read.len(), 1);
+                assert_eq!(rt; read.as_slice()[0].title.as_str(), "Reef");
+            }
+            Err(fault) => {
+                assert!(rt; !wanted);
+                assert!(rt; matches!(fault, SearchFault::BadPlace { document: 0 }));
+            }
+        }
+        assert_eq!(rt; link.exchanges().len(), 3);
+    }
     Ok(())
 }

@@ -1,5 +1,6 @@
 use Rattle.std.proofs.Common.{◌≡◌, ℕ, ◌*◌, ◌∙◌, max, ap, subst, arith, List, Result, Err}
 use Rattle.co_link.specs.declared.messages.Request.{Request}
+use Rattle.co_noise.specs.Shapes.{Numbers}
 use Rattle.co_wire.specs.Lengths.{reply_size, reply_limit}
 use Rattle.co_client.specs.declared.fault.SearchFault.{SearchFault}
 use Rattle.co_client.specs.Openings.{AreSpelled, IsRefusedBody}
@@ -10,7 +11,7 @@ use Rattle.co_client.proofs.querying.ask_ciphers.Goals as goal
 pub returns-in-Err-clause-cause : goal.returns-in-Err-clause-cause
 returns-in-Err-clause-cause g c =
     let limit : c.max-limit.result ≡ reply_limit c.args.reader.now.shape c.args.target =
-    c.max-limit.ensures ∙ ap (λ (k : ℕ). max k 256) c.reply_length.ensures.value ∙ limit-is c.args.reader.now.shape c.args.target c.requires.target.0 c.requires.target.1 in
+    c.max-limit.ensures ∙ ap (λ (k : ℕ). max k 256) (c.reply_length.ensures.value ∙ ap (λ (x : Numbers). reply_size x c.args.target) c.tested-2.ensures) ∙ limit-is c.args.reader.now.shape c.args.target c.requires.target.0 c.requires.target.1 in
     let P : ℕ → Result (List ℕ) SearchFault → Type 0 = λ k r. LinkFails (g.K.Link.faults c.args.link.now) (g.K.Link.faults c.ask.new.link) (g.K.Link.last_failed c.ask.new.link) (record { target = c.args.target; limit = k }) r in
     subst (λ (k : ℕ). P k (Err c.in-Err.fault)) limit (subst (λ (r : Result (List ℕ) SearchFault). P c.max-limit.result r) c.in-Err.is c.ask.ensures.cause)
 

@@ -10,7 +10,7 @@ use Rattle.co_rounds.specs.Scoring.{scores_read}
 use Rattle.co_client.specs.Openings.{AreSpelled}
 use Rattle.co_client.specs.Rounds.{Comes, RoundFails, queries_request}
 use Rattle.co_client.proofs.Score_round.{memory-round, spelled-same, ranking-few, scores-whole, scores-long, scores-rank}
-use Rattle.co_client.proofs.scoring.rank.Goals as goal
+use Rattle.co_client.proofs.scoring.score_hits.Goals as goal
 
 pub returns-in-Err-clause-refused : goal.returns-in-Err-clause-refused
 unfolding queries_request
