@@ -167,7 +167,7 @@ fn main() {
     if words <= 3 {
         told("score", || scheme.score(&query, &key));
     } else if words == 8 {
-        told("expand", || scheme.expand(&query, &key, 4096));
+        told("expand", || scheme.expand(&query, &key, 1024));
     } else {
         let (rows, chunks) = if words == 7 { (1024, 8) } else { (64, 256) };
         let bytes: Vec<u8> = (0..rows * chunks * 2 * N).map(|i| (i % 251) as u8).collect();
