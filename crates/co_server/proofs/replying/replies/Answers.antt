@@ -7,7 +7,7 @@ use Rattle.co_server.proofs.replying.replies.Goals as goal
 
 pub score-requires-clause-blocks : goal.score-requires-clause-blocks
 score-requires-clause-blocks g c κs within =
-    c.requires.queries.count_is ∙ sym (blocks-of c.args.loaded.now) ∙ sym (ap (λ (w : WeightMatrix). keyword_blocks w) c.weights.ensures)
+    c.requires.queries.count_is ∙ sym (blocks-of c.args.loaded.now) ∙ sym (ap (λ (w : WeightMatrix). keyword_blocks w) c.weights-weights.ensures)
 
 pub answer-requires-clause-enough_keys : goal.answer-requires-clause-enough_keys
 answer-requires-clause-enough_keys g c κs within =
