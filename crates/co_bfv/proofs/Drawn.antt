@@ -48,9 +48,6 @@ pub record AreParts (k : ℕ) (xs us vs : List ℕ) : Type 0 where
   pub len : length xs ≡ k
   pub each : (i : ℕ) → i < k → get_or xs i 0 ≡ composed (get_or us i 0) (get_or vs i 0)
 
-pub no_parts : (us vs : List ℕ) → AreParts 0 [] us vs
-no_parts us vs = record { len = refl; each = λ i l. absurd (omega arith) }
-
 one_part : (k x u v : ℕ) (xs us vs : List ℕ) → AreParts k xs us vs → k < length us → k < length vs → x ≡ composed u v
     → AreParts (k + 1) (xs ++ x ∷ []) (set us k u) (set vs k v)
 one_part k x u v xs us vs h l m e = record { len = grind (arith, elements); each = grind (arith, elements) }

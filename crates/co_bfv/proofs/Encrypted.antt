@@ -13,7 +13,7 @@ use Rattle.co_math.proofs.Residues.{cong-trans, cong_from, cong-refl}
 use Rattle.co_math.proofs.Terms.{coefficient-low}
 use Rattle.co_math.proofs.Places.{coefficients-IsWrapped}
 use Rattle.co_math.proofs.Polynomials.{product-IsWrapped}
-use Rattle.co_math.proofs.Agreements.{Agree, residues_agree, residues_for, plus_agree, minus_agree, product_agree}
+use Rattle.co_math.proofs.Agreements.{Agree, residues_agree, residues_for, plus_agree, minus_agree}
 use Rattle.co_math.proofs.Noise.{rounding}
 use Rattle.co_math.proofs.Done.{AreFilled}
 use Rattle.co_ring.specs.declared.moduli.Modulus.TheVariants.{Plain}
@@ -38,13 +38,6 @@ signed_to n xs z e = subst (λ (k : ℕ). IsWrapped k (signed_coefficients xs)) 
 same : (f : ℤ → ℤ) → Agree q f f
 same f k = cong-refl q (f k)
 
--- residues of a product with a polynomial that is known modulo q
-pub product_residues : (n : ℕ) (a s : ℤ → ℤ) (ss hs : List ℕ) → 0 < n → IsWrapped n s → AreResidues q n s ss
-    → AreResidues q n (product n a (coefficients ss)) hs → AreResidues q n (product n a s) hs
-product_residues n a s ss hs z w r h =
-    residues_for q n (product n a (coefficients ss)) (product n a s) hs (omega arith)
-    (λ k u. product_agree q n a (coefficients ss) a s (same a) (residues_agree q n s ss (omega arith) z w r) (pos k)) h
-
 -- c0 of an encryption, from what the steps give
 pub masked_residues : (n : ℕ) (d e p : ℤ → ℤ) (es xs hs ys : List ℕ) → 0 < n → IsWrapped n d → IsWrapped n e → IsWrapped n p
     → AreResidues q n e es → AreResidues q n (plus d (coefficients es)) xs → AreResidues q n p hs → AreResidues q n (minus (coefficients xs) (coefficients hs)) ys
@@ -55,19 +48,6 @@ masked_residues n d e p es xs hs ys z wd we wp r x h y =
     sums : Agree q (coefficients xs) (plus d e)
     sums = residues_agree q n (plus d e) xs (omega arith) z (plus-IsWrapped n d e wd we)
         (residues_for q n (plus d (coefficients es)) (plus d e) xs (omega arith) (λ k u. plus_agree q d (coefficients es) d e (same d) (residues_agree q n e es (omega arith) z we r) (pos k)) x)
-
--- the product with a secret
-pub mul_are : (secret : List ℤ) (os ss hs : List ℕ) → IsSecret secret → length os ≡ length secret → ss ≡ residues_of q (length secret) (signed_coefficients secret)
-    → AreResidues q (length os) (product (length os) (coefficients os) (coefficients ss)) hs
-    → hs ≡ residues_of q (length secret) (product (length secret) (coefficients os) (signed_coefficients secret))
-mul_are secret os ss hs h e f r =
-    let n = length secret in
-    let s = signed_coefficients secret in
-    let z = degree_positive n h.degree in
-    let known : AreResidues q n s ss = subst (AreResidues q n s) (sym f) (residues_of-are q n s) in
-    residues_of-is q n (product n (coefficients os) s) hs
-    (product_residues n (coefficients os) s ss hs z (signed-IsWrapped secret z) known
-    (subst (λ (k : ℕ). AreResidues q k (product k (coefficients os) (coefficients ss)) hs) e r))
 
 -- both parts of an encryption
 encrypted_are : (secret : List ℤ) (message us : List ℕ) (e : List ℤ) (es hs xs ys : List ℕ) → IsDegree (length secret)

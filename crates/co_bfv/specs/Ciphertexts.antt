@@ -22,10 +22,12 @@ pub record IsCiphertext (c : Ciphertext) : Type 0 where
 abbrev pub ciphertext_degree : Ciphertext → ℕ
 ciphertext_degree c = length c.c0
 
--- Under the secret s the ciphertext c means the polynomial m modulo t, with noise of size at most b.
--- The noise is t * (c0 + c1 * s) - q * m, centred modulo t * q: q times what later literature on the scheme calls the invariant noise.
+-- Under the secret s the ciphertext c means the polynomial m modulo t, with noise of size at most
+-- b. The noise is t * (c0 + c1 * s) - q * m, centred modulo t * q: q times what later literature on
+-- the scheme calls the invariant noise.
 abbrev pub MeansWithin : (ℤ → ℤ) → Ciphertext → (ℤ → ℤ) → ℕ → Type 0
-MeansWithin s c m b = Means plain_modulus q (ciphertext_degree c) s (coefficients c.c0) (coefficients c.c1) m b
+MeansWithin s c m b =
+    Means plain_modulus q (ciphertext_degree c) s (coefficients c.c0) (coefficients c.c1) m b
 
 -- the ciphertext of zeros, of degree n
 unfoldable pub zero_ciphertext : ℕ → Ciphertext
@@ -48,6 +50,8 @@ ciphertext_difference c d = record {
 -- both parts times a polynomial modulo t, taken with centred coefficients
 unfoldable pub plain_product : Ciphertext → List ℕ → Ciphertext
 plain_product c plain = record {
-  c0 = residues_of q (ciphertext_degree c) (product (ciphertext_degree c) (coefficients c.c0) (centred_coefficients plain));
-  c1 = residues_of q (ciphertext_degree c) (product (ciphertext_degree c) (coefficients c.c1) (centred_coefficients plain));
+  c0 = residues_of q (ciphertext_degree c) (product (ciphertext_degree c) (coefficients c.c0)
+      (centred_coefficients plain));
+  c1 = residues_of q (ciphertext_degree c) (product (ciphertext_degree c) (coefficients c.c1)
+      (centred_coefficients plain));
 }

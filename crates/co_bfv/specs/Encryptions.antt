@@ -14,7 +14,8 @@ delta m = (2 * q * m + plain_modulus) / (2 * plain_modulus)
 -- the encryption of a message with the uniform polynomial a and the error e
 unfoldable pub encrypted : List ℤ → List ℕ → List ℕ → List ℤ → Ciphertext
 encrypted secret message a e = record {
-  c0 = residues_of q (length secret) (minus (plus (coefficients (map delta message)) (signed_coefficients e))
+  c0 = residues_of q (length secret)
+      (minus (plus (coefficients (map delta message)) (signed_coefficients e))
       (product (length secret) (coefficients a) (signed_coefficients secret)));
   c1 = a;
 }
@@ -27,4 +28,5 @@ opened p = (2 * plain_modulus * p + q) / (2 * q) % plain_modulus
 unfoldable pub decrypted : List ℤ → Ciphertext → List ℕ
 decrypted secret c =
     let n = ciphertext_degree c in
-    map opened (residues_of q n (phase n (signed_coefficients secret) (coefficients c.c0) (coefficients c.c1)))
+    map opened (residues_of q n (phase n (signed_coefficients secret)
+    (coefficients c.c0) (coefficients c.c1)))

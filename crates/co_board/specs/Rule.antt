@@ -25,7 +25,8 @@ pub record Holds (limits : Limits) (s : State (Unit {0}) (List Hand)) : Type 0 w
   pub machine : Machine
   pub reached : IsState limits.units limits.seats machine
   pub word : s.words ≡ machine.word ∷ []
-  pub hands : (id : ℕ) (v : List Hand) → get_elem? s.views id ≡ some v → All (IsHand limits machine) v
+  pub hands : (id : ℕ) (v : List Hand) → get_elem? s.views id ≡ some v
+      → All (IsHand limits machine) v
   pub passes : (p : ℕ) → sum_over (hands_of p) s.views ≡ once_below limits.seats p
   pub carried : sum_over length s.views ≡ limits.seats
 
@@ -53,6 +54,11 @@ other_hands [] = []
 other_hands (h ∷ hs) = hs
 
 -- a claim: the number found is above the hand's others, and goes behind them
-abbrev pub Drew : Step (Unit {0}) → Me (Unit {0}) (List Hand) → ℕ → Me (Unit {0}) (List Hand) → Type 0
-Drew st before n after = (after ≡ (hand (first_hand before.0).limits (first_hand before.0).number ((first_hand before.0).drawn ++ n ∷ []) ∷ [], []))
+abbrev pub Drew : Step (Unit {0}) → Me (Unit {0}) (List Hand) → ℕ
+    → Me (Unit {0}) (List Hand) → Type 0
+Drew st before n after = (after ≡ (
+  hand (first_hand before.0).limits (first_hand before.0).number
+      ((first_hand before.0).drawn ++ n ∷ []) ∷ [],
+  [],
+))
     × All (λ d. d < n) (first_hand before.0).drawn

@@ -25,9 +25,15 @@ impl Model for Board {
 
     ghost Value = { BoardValue };
 
-    ghost view = { λ b. record { units = b.table.shared.key.units; seats = b.table.shared.key.seats; table = b.table.shared.table_id } };
+    ghost view = { λ b. record {
+      units = b.table.shared.key.units;
+      seats = b.table.shared.key.seats;
+      table = b.table.shared.table_id;
+    } };
 
-    ghost invariant = { λ b. (b.units ≡ b.table.shared.key.units) × (b.units ≤ 2 ^ 32) × (1 ≤ b.table.shared.key.seats) × (b.table.shared.key.seats ≤ 64) × (b.table.shared.table_id.words ≡ 1) × (b.table.shared.table_id.slots ≡ 0) };
+    ghost invariant = { λ b. (b.units ≡ b.table.shared.key.units) × (b.units ≤ 2 ^ 32)
+        × (1 ≤ b.table.shared.key.seats) × (b.table.shared.key.seats ≤ 64)
+        × (b.table.shared.table_id.words ≡ 1) × (b.table.shared.table_id.slots ≡ 0) };
 }
 
 /// The right to claim units of one board.
@@ -46,7 +52,9 @@ impl Model for Pass {
 
     ghost view = { λ p. pass_of p.seat.table_id (first_hand p.seat.me.0) };
 
-    ghost invariant = { λ p. (p.seat.me ≡ (first_hand p.seat.me.0 ∷ [], [])) × (p.spent ≡ has_passed (first_hand p.seat.me.0).limits.units (first_hand p.seat.me.0).drawn) };
+    ghost invariant = { λ p. (p.seat.me ≡ (first_hand p.seat.me.0 ∷ [], []))
+        × (p.spent ≡ has_passed (first_hand p.seat.me.0).limits.units
+        (first_hand p.seat.me.0).drawn) };
 }
 
 /// A pass in the hand of a seat that carries one hand.
@@ -65,7 +73,8 @@ fn deal(
     limits: Limits,
 ) -> Result<Vec<Pass>, AllocError>
     requires some { 1 ≤ limits.seats }
-    requires table { (seat.table_id ≡ table.now.shared.table_id) × (table.now.shared.key ≡ limits) × (table.now.shared.table_id.words ≡ 1) }
+    requires table { (seat.table_id ≡ table.now.shared.table_id) × (table.now.shared.key ≡ limits)
+        × (table.now.shared.table_id.words ≡ 1) }
     requires hands { seat.me ≡ (all_hands limits, []) }
     ensures { IfOk result (λ passes. passes.items ≡ new_passes table.now.shared.table_id limits) }
 {
@@ -84,7 +93,8 @@ impl Board {
     pub fn new(alloc: Global, units: u64, seats: u32) -> Result<(Board, Vec<Pass>), AllocError>
         requires units { units ≤ 2 ^ 32 }
         requires seats { (1 ≤ seats) × (seats ≤ 64) }
-        ensures { IfOk result (λ made. (made.0.units ≡ units) × (made.0.seats ≡ seats) × (made.1.items ≡ fresh_passes made.0)) }
+        ensures { IfOk result (λ made. (made.0.units ≡ units) × (made.0.seats ≡ seats)
+            × (made.1.items ≡ fresh_passes made.0)) }
     {
         let limits = Limits {
             units,
@@ -95,7 +105,8 @@ impl Board {
         Ok((Board { table, units }, passes))
     }
 
-    /// Draws the next number. The answer is None where it is no unit, and without a draw where the pass had None before.
+    /// Draws the next number. The answer is None where it is no unit, and without a draw where the
+    /// pass had None before.
     pub fn claim(&self, pass: &mut Pass) -> Option<u64>
         requires { pass.old.board ≡ self.now }
         ensures pass { (pass.new.board ≡ pass.old.board) × (pass.new.number ≡ pass.old.number) }
@@ -118,7 +129,8 @@ impl Board {
         requires all { length passes.items ≡ self.seats }
         ensures state { IsClosed self passes.items result }
         ensures each_once { EachOnce result (map drawn_of passes.items) }
-        ensures units { All (HadNone self.units) passes.items → EachOnce self.units (map (units_of self.units) passes.items) }
+        ensures units { All (HadNone self.units) passes.items
+            → EachOnce self.units (map (units_of self.units) passes.items) }
     {
         let Board { table, units: _ } = self;
         let mut rest = passes.into_iter();

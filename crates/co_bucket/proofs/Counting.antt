@@ -7,7 +7,7 @@ use Rattle.std.proofs.lemmas.Bool.{cases_lt}
 use Rattle.std.proofs.lemmas.Grind.{div_ceil_times}
 use Rattle.std.proofs.lemmas.List.{get_or_default, get_or-map, get_or-take, length-map, length-take, length-replicate, get_or-replicate, ext_get_or}
 use Rattle.std.proofs.lemmas.List.FromFn.{length-range_with_len, length-map-range_with_len, get_or-map-range_with_len}
-use Rattle.co_bucket.specs.Lists.{candidates_of, is_in, lists_of, listed, may_stand}
+use Rattle.co_bucket.specs.Lists.{candidates_of, lists_of, listed, may_stand}
 use Rattle.co_bucket.specs.Rows.{longest, IsRowCount}
 use Rattle.co_bucket.specs.Filling.{contents, AreShort, IsStepped, IsCounted}
 use Rattle.co_bucket.proofs.Stepping.{listed_more}
@@ -131,7 +131,3 @@ counted_all salt buckets n now is =
     let in_buckets : k < buckets = omega arith in
     get_or-take buckets now k 0 in_buckets ∙ is.each k in_buckets
     ∙ sym (get_or-map length (lists_of salt buckets n) k [] 0 (omega arith) ∙ ap length (get_or-map-range_with_len (listed salt buckets n) 0 buckets k k [] in_buckets (omega arith))))
-
--- a step that was not yet made finds the value as it was
-pub unstepped : (before now seen : List ℕ) (b : ℕ) → IsStepped 0 (λ k. k + 1) before seen now → b < length before → is_in seen b ≡ false → get_or now b 0 ≡ get_or before b 0
-unstepped before now seen b is in_before lacks = is.each b in_before ∙ ap (λ t. if t then get_or before b 0 + 1 else get_or before b 0) lacks

@@ -202,9 +202,6 @@ started cs n hole choices items buckets shifted wide in_n base i_is b_is s_is = 
   asked = λ b has. let none : has.0 < 0 = has.1 in absurd (omega arith);
 })
 
-pub kept_none : (items buckets : List ℕ) → IsKept items buckets items buckets
-kept_none items buckets = record { more = omega arith; same = λ j in_j. refl; still = λ b has. has }
-
 pub kept_more : (i b i' b' i'' b'' : List ℕ) → IsKept i b i' b' → IsKept i' b' i'' b'' → IsKept i b i'' b''
 kept_more i b i' b' i'' b'' one two = record {
   more = omega (arith, one.more, two.more);

@@ -32,9 +32,6 @@ is_in-same seen b = is_in-push seen b b ∙ ap (λ t. is_in seen b || t) (eq-eqb
 is_in-other : (seen : List ℕ) (b k : ℕ) → (k ≡ b → ⊥) → is_in (seen ++ b ∷ []) k ≡ is_in seen k
 is_in-other seen b k other = is_in-push seen b k ∙ ap (λ t. is_in seen k || t) (apart_tests b k (λ e. other (sym e))) ∙ or-false (is_in seen k)
 
-pub stepped_none : {X : Type 0} (none : X) (step : X → X) (before : List X) → IsStepped none step before [] before
-stepped_none none step before = record { many = refl; each = λ k below. refl }
-
 -- the step at one bucket more
 pub stepped_more : {X : Type 0} (none : X) (step : X → X) (before now now' : List X) (seen : List ℕ) (b : ℕ) → b < length before → IsStepped none step before seen now
     → now' ≡ (if is_in seen b then now else set now b (step (get_or now b none)))

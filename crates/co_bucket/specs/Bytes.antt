@@ -11,9 +11,11 @@ row_size degree = max 256 (2 * degree)
 abbrev pub record_chunks : ℕ → ℕ
 record_chunks degree = max 1 (128 / degree)
 
--- the bytes of a bucket: the records of its list in order, then zeros up to its rows; `spelled` are the 256 bytes of a document's record
+-- the bytes of a bucket: the records of its list in order, then zeros up to its rows; `spelled` are
+-- the 256 bytes of a document's record
 unfoldable pub bucket_bytes : ℕ → ℕ → (ℕ → List ℕ) → List ℕ → List ℕ
-bucket_bytes degree rows spelled list = flat_map spelled list ++ replicate (rows * row_size degree - length (flat_map spelled list)) 0
+bucket_bytes degree rows spelled list =
+    flat_map spelled list ++ replicate (rows * row_size degree - length (flat_map spelled list)) 0
 
 -- a row of a bucket
 abbrev pub row_of : ℕ → ℕ → List ℕ → List ℕ
@@ -26,7 +28,8 @@ record_row degree position = position / records_a_row degree
 abbrev pub record_start : ℕ → ℕ → ℕ
 record_start degree position = 256 * (position % records_a_row degree)
 
--- records of 256 bytes, no more than the rows hold, at a degree that is a power of two from 16 to 4096
+-- records of 256 bytes, no more than the rows hold, at a degree that is a power of two from 16 to
+-- 4096
 pub record AreHeld (degree rows : ℕ) (spelled : ℕ → List ℕ) (list : List ℕ) : Type 0 where
   pub exponent : ℕ
   pub least : 4 ≤ exponent

@@ -12,10 +12,13 @@ contents vs = map (λ v. v.items) vs
 abbrev pub AreShort : List (List ℕ) → Type 0
 AreShort lists = (k : ℕ) → k < length lists → length (slice_index_or lists k []) < 2 ^ 32
 
--- one step was made at each bucket of `row`, at a bucket that stands there twice also one; `none` is what is read past the end
-pub record IsStepped {X : Type 0} (none : X) (step : X → X) (before : List X) (row : List ℕ) (now : List X) : Type 0 where
+-- one step was made at each bucket of `row`, at a bucket that stands there twice also one; `none`
+-- is what is read past the end
+pub record IsStepped {X : Type 0} (none : X) (step : X → X) (before : List X) (row : List ℕ)
+    (now : List X) : Type 0 where
   pub many : length now ≡ length before
-  pub each : (k : ℕ) → k < length before → slice_index_or now k none ≡ (if is_in row k then step (slice_index_or before k none) else slice_index_or before k none)
+  pub each : (k : ℕ) → k < length before → slice_index_or now k none
+      ≡ (if is_in row k then step (slice_index_or before k none) else slice_index_or before k none)
 
 -- the first documents are counted at their buckets
 pub record IsCounted (salt buckets documents : ℕ) (counts : List ℕ) : Type 0 where

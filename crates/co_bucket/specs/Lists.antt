@@ -16,9 +16,11 @@ digest salt document = sha256 (to_be_bytes w32 salt ++ to_be_bytes w32 document)
 abbrev pub word : List ℕ → ℕ → ℕ
 word hash at = from_be_bytes w64 (take 8 (drop at hash))
 
--- the three candidates of a document: the words at 0, 8 and 16 of its hash, modulo the number of buckets
+-- the three candidates of a document: the words at 0, 8 and 16 of its hash, modulo the number of
+-- buckets
 unfoldable pub candidates_of : ℕ → ℕ → ℕ → List ℕ
-candidates_of salt buckets document = map (λ at. word (digest salt document) at % buckets) (0 ∷ 8 ∷ 16 ∷ [])
+candidates_of salt buckets document =
+    map (λ at. word (digest salt document) at % buckets) (0 ∷ 8 ∷ 16 ∷ [])
 
 -- whether a bucket is one of some
 abbrev pub is_in : List ℕ → ℕ → Bool
@@ -30,7 +32,8 @@ may_stand salt buckets bucket document = is_in (candidates_of salt buckets docum
 
 -- the documents below a number that have the bucket as a candidate, ascending, each once
 abbrev pub listed : ℕ → ℕ → ℕ → ℕ → List ℕ
-listed salt buckets documents bucket = filter (may_stand salt buckets bucket) (range_with_len 0 documents)
+listed salt buckets documents bucket =
+    filter (may_stand salt buckets bucket) (range_with_len 0 documents)
 
 -- the lists of all buckets
 abbrev pub lists_of : ℕ → ℕ → ℕ → List (List ℕ)

@@ -19,12 +19,14 @@ pub record IsAssignmentBut (cs : List (List ℕ)) (n out : ℕ) (bs : List ℕ) 
 
 -- xs stands before ys in the lexicographic order of their first n buckets
 abbrev pub IsBefore : ℕ → List ℕ → List ℕ → Type 0
-IsBefore n xs ys = (i : ℕ) × (i < n) × ((j : ℕ) → j < i → slice_index xs j ≡ slice_index ys j) × (slice_index xs i < slice_index ys i)
+IsBefore n xs ys = (i : ℕ) × (i < n) × ((j : ℕ) → j < i → slice_index xs j ≡ slice_index ys j)
+    × (slice_index xs i < slice_index ys i)
 
 -- an assignment, and none stands before it
 pub record IsLeast (cs : List (List ℕ)) (bs : List ℕ) : Type 0 where
   pub assigns : IsAssignment cs (length cs) bs
-  pub least : (other : List ℕ) → IsAssignment cs (length cs) other → IsBefore (length cs) other bs → ⊥
+  pub least : (other : List ℕ) → IsAssignment cs (length cs) other
+      → IsBefore (length cs) other bs → ⊥
 
 -- bucket by bucket, which of n items bs puts there
 pub record IsInverse (n : ℕ) (bs : List ℕ) (placed : List (Option ℕ)) : Type 0 where
@@ -38,13 +40,15 @@ pub record IsPlacement (cs : List (List ℕ)) (buckets : ℕ) (placed : List (Op
   pub is_least : IsLeast cs choices
   pub places : IsInverse (length cs) choices placed
 
--- why there is no assignment: the shortest prefix without one, its items without any one of which it has one, and their candidates
+-- why there is no assignment: the shortest prefix without one, its items without any one of which
+-- it has one, and their candidates
 pub record IsWitness (cs : List (List ℕ)) (items buckets : List ℕ) : Type 0 where
   pub prefix : ℕ
   pub within : prefix ≤ length cs
   pub none : (bs : List ℕ) → IsAssignment cs prefix bs → ⊥
   pub shortest : (m : ℕ) → m < prefix → (bs : List ℕ) × IsAssignment cs m bs
-  pub members : (i : ℕ) → Contains items i ↔ ((i < prefix) × ((bs : List ℕ) × IsAssignmentBut cs prefix i bs))
+  pub members : (i : ℕ) → Contains items i
+      ↔ ((i < prefix) × ((bs : List ℕ) × IsAssignmentBut cs prefix i bs))
   pub candidates : (b : ℕ) → Contains buckets b ↔ ((i : ℕ) × Contains items i × IsCandidate cs i b)
   pub items_ascend : IsStrictlyIncreasing items
   pub buckets_ascend : IsStrictlyIncreasing buckets

@@ -4,7 +4,8 @@ use Rattle.std.specs.List.{All, fold}
 use Rattle.std.specs.Int.{div_ceil}
 use Rattle.co_bucket.specs.Lists.{bucket_count, lists_of}
 
--- how many records of 256 bytes a row holds: a polynomial of the degree has two bytes a coefficient, and a row has one record at least
+-- how many records of 256 bytes a row holds: a polynomial of the degree has two bytes a
+-- coefficient, and a row has one record at least
 abbrev pub records_a_row : ℕ → ℕ
 records_a_row degree = max 1 (degree / 128)
 

@@ -18,7 +18,8 @@ pub(crate) type Choices = [u32; MOST_ITEMS];
 /// The item below `count` other than `hole` that has the bucket.
 fn owner(choices: &Choices, count: usize, hole: usize, bucket: u32) -> Option<usize>
     requires { count ≤ MOST_ITEMS }
-    ensures none { MatchOption result ((x : ℕ) → x < count → x ≢ hole → slice_index choices.now x ≢ bucket) (λ z. z < count) }
+    ensures none { MatchOption result ((x : ℕ) → x < count → x ≢ hole
+        → slice_index choices.now x ≢ bucket) (λ z. z < count) }
     ensures some { IfSome result (λ z. slice_index choices.now z ≡ bucket) }
     ensures other { IfSome result (λ z. z ≢ hole) }
 {
@@ -51,12 +52,19 @@ fn reach(
     bucket: u32,
 ) -> Result<Option<Choices>, AllocError>
     requires count { count ≤ MOST_ITEMS }
-    requires reached { IsReached candidates.now count hole choices.now reached.old.items.items reached.old.buckets.items reached.old.shifted.items }
+    requires reached { IsReached candidates.now count hole choices.now reached.old.items.items
+        reached.old.buckets.items reached.old.shifted.items }
     requires at { at < length reached.old.items.items }
     requires bucket { IsCandidate candidates.now (slice_index reached.old.items.items at) bucket }
-    ensures placed { IfOk result (λ found. MatchOption found (IsReached candidates.now count hole choices.now reached.new.items.items reached.new.buckets.items reached.new.shifted.items) (λ bs. IsAssignmentBut candidates.now count count bs)) }
-    ensures kept { IfOk result (λ found. MatchOption found (IsKept reached.old.items.items reached.old.buckets.items reached.new.items.items reached.new.buckets.items) (λ bs. Unit {0})) }
-    ensures closed { IfOk result (λ found. MatchOption found (Contains reached.new.buckets.items bucket) (λ bs. Unit {0})) }
+    ensures placed { IfOk result (λ found.
+        MatchOption found (IsReached candidates.now count hole choices.now reached.new.items.items
+        reached.new.buckets.items reached.new.shifted.items) (λ bs.
+        IsAssignmentBut candidates.now count count bs)) }
+    ensures kept { IfOk result (λ found. MatchOption found
+        (IsKept reached.old.items.items reached.old.buckets.items reached.new.items.items
+        reached.new.buckets.items) (λ bs. Unit {0})) }
+    ensures closed { IfOk result (λ found.
+        MatchOption found (Contains reached.new.buckets.items bucket) (λ bs. Unit {0})) }
 {
     if reached.buckets.contains(&bucket) {
         return Ok(None);
@@ -83,11 +91,19 @@ fn explore(
 ) -> Result<Option<Choices>, AllocError>
     requires count { count ≤ MOST_ITEMS }
     requires within { count ≤ length candidates.now }
-    requires reached { IsReached candidates.now count hole choices.now reached.old.items.items reached.old.buckets.items reached.old.shifted.items }
+    requires reached { IsReached candidates.now count hole choices.now reached.old.items.items
+        reached.old.buckets.items reached.old.shifted.items }
     requires at { at < length reached.old.items.items }
-    ensures placed { IfOk result (λ found. MatchOption found (IsReached candidates.now count hole choices.now reached.new.items.items reached.new.buckets.items reached.new.shifted.items) (λ bs. IsAssignmentBut candidates.now count count bs)) }
-    ensures kept { IfOk result (λ found. MatchOption found (IsKept reached.old.items.items reached.old.buckets.items reached.new.items.items reached.new.buckets.items) (λ bs. Unit {0})) }
-    ensures closed { IfOk result (λ found. MatchOption found (IsClosed candidates.now reached.new.items.items reached.new.buckets.items at) (λ bs. Unit {0})) }
+    ensures placed { IfOk result (λ found.
+        MatchOption found (IsReached candidates.now count hole choices.now reached.new.items.items
+        reached.new.buckets.items reached.new.shifted.items) (λ bs.
+        IsAssignmentBut candidates.now count count bs)) }
+    ensures kept { IfOk result (λ found. MatchOption found
+        (IsKept reached.old.items.items reached.old.buckets.items reached.new.items.items
+        reached.new.buckets.items) (λ bs. Unit {0})) }
+    ensures closed { IfOk result (λ found.
+        MatchOption found (IsClosed candidates.now reached.new.items.items reached.new.buckets.items
+        at) (λ bs. Unit {0})) }
 {
     let row = candidates[reached.items[at] as usize];
     for bucket in row {

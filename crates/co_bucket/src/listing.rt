@@ -123,7 +123,8 @@ fn filled_lists(
 
 fn empty_lists(alloc: Global, buckets: u32) -> Result<Vec<Vec<u32>>, AllocError>
     ensures many { IfOk result (λ lists. length lists.items ≡ buckets) }
-    ensures empty { IfOk result (λ lists. (k : ℕ) → k < buckets → slice_index_or (contents lists.items) k [] ≡ []) }
+    ensures empty { IfOk result (λ lists. (k : ℕ) → k < buckets
+        → slice_index_or (contents lists.items) k [] ≡ []) }
 {
     let mut lists: Vec<Vec<u32>> = Vec::new(alloc);
     for bucket in 0..buckets {
@@ -148,7 +149,8 @@ fn fill(lists: &mut [Vec<u32>], salt: u32, buckets: u32, documents: u32) -> Resu
 /// Puts the document into the lists of its candidates, once into each.
 fn put_all(lists: &mut [Vec<u32>], row: &[u32], document: u32) -> Result<(), AllocError>
     requires { All (λ b. b < length lists.old) row.now }
-    ensures { IfOk result (λ _. IsStepped [] (λ list. list ++ document ∷ []) (contents lists.old) row.now (contents lists.new)) }
+    ensures { IfOk result (λ _. IsStepped [] (λ list. list ++ document ∷ [])
+        (contents lists.old) row.now (contents lists.new)) }
 {
     for i in 0..row.len() {
         put_once(lists, &row[..i], row[i], document)?;
@@ -164,7 +166,9 @@ fn put_once(
     document: u32,
 ) -> Result<(), AllocError>
     requires { bucket < length lists.old }
-    ensures { IfOk result (λ _. contents lists.new ≡ (if is_in seen.now bucket then contents lists.old else slice_set (contents lists.old) bucket (slice_index_or (contents lists.old) bucket [] ++ document ∷ []))) }
+    ensures { IfOk result (λ _. contents lists.new ≡ (if is_in seen.now bucket
+        then contents lists.old else slice_set (contents lists.old) bucket
+        (slice_index_or (contents lists.old) bucket [] ++ document ∷ []))) }
 {
     if seen.contains(&bucket) {
         return Ok(());
@@ -175,7 +179,8 @@ fn put_once(
 /// Puts the document at the end of the bucket's list.
 fn put(lists: &mut [Vec<u32>], bucket: u32, document: u32) -> Result<(), AllocError>
     requires { bucket < length lists.old }
-    ensures { IfOk result (λ _. contents lists.new ≡ slice_set (contents lists.old) bucket (slice_index_or (contents lists.old) bucket [] ++ document ∷ [])) }
+    ensures { IfOk result (λ _. contents lists.new ≡ slice_set (contents lists.old) bucket
+        (slice_index_or (contents lists.old) bucket [] ++ document ∷ [])) }
 {
     lists[bucket as usize].push(document)?;
     Ok(())

@@ -41,7 +41,8 @@ fn place_one(
     requires few { length candidates.now ≤ MOST_ITEMS }
     requires item { item < length candidates.now }
     requires placed { IsAssignment candidates.now item choices.now }
-    ensures { MatchResult result (λ bs. IsAssignment candidates.now (item + 1) bs) (Refuses candidates.now) }
+    ensures { MatchResult result (λ bs. IsAssignment candidates.now (item + 1) bs)
+        (Refuses candidates.now) }
 {
     match search(alloc, candidates, choices, item + 1, item) {
         Err(_) => Err(PlaceFault::OutOfMemory),
@@ -65,7 +66,8 @@ fn place_one(
 /// An assignment of all items.
 fn assign(alloc: Global, candidates: &[[u32; 3]]) -> Result<Choices, PlaceFault>
     requires few { length candidates.now ≤ MOST_ITEMS }
-    ensures { MatchResult result (λ bs. IsAssignment candidates.now (length candidates.now) bs) (Refuses candidates.now) }
+    ensures { MatchResult result (λ bs. IsAssignment candidates.now (length candidates.now) bs)
+        (Refuses candidates.now) }
 {
     let mut choices = [0; MOST_ITEMS];
     for item in 0..candidates.len() {
@@ -88,10 +90,14 @@ fn prefer(
     requires item { item < length narrowed.old }
     requires of { Contains row bucket }
     requires placed { IsAssignment (slice_set narrowed.old item row) (length narrowed.old) choices }
-    ensures same { IfOk result (λ bs. slice_set narrowed.new item row ≡ slice_set narrowed.old item row) }
-    ensures placed { IfOk result (λ bs. IsAssignment (slice_set narrowed.old item row) (length narrowed.old) bs) }
+    ensures same { IfOk result (λ bs. slice_set narrowed.new item row
+        ≡ slice_set narrowed.old item row) }
+    ensures placed { IfOk result (λ bs. IsAssignment (slice_set narrowed.old item row)
+        (length narrowed.old) bs) }
     ensures lower { IfOk result (λ bs. slice_index bs item ≤ slice_index choices item) }
-    ensures least { IfOk result (λ bs. (f : List ℕ) → IsAssignment (slice_set narrowed.old item row) (length narrowed.old) f → slice_index f item ≡ bucket → slice_index bs item ≤ bucket) }
+    ensures least { IfOk result (λ bs. (f : List ℕ)
+        → IsAssignment (slice_set narrowed.old item row) (length narrowed.old) f
+        → slice_index f item ≡ bucket → slice_index bs item ≤ bucket) }
 {
     if choices[item] <= bucket {
         return Ok(choices);
@@ -114,9 +120,12 @@ fn lower(
     requires few { length narrowed.old ≤ MOST_ITEMS }
     requires item { item < length narrowed.old }
     requires placed { IsAssignment narrowed.old (length narrowed.old) choices }
-    ensures changed { IfOk result (λ bs. narrowed.new ≡ slice_set narrowed.old item (slice_index bs item ∷ slice_index bs item ∷ slice_index bs item ∷ [])) }
+    ensures changed { IfOk result (λ bs. narrowed.new ≡ slice_set narrowed.old item
+        (slice_index bs item ∷ slice_index bs item ∷ slice_index bs item ∷ [])) }
     ensures placed { IfOk result (λ bs. IsAssignment narrowed.old (length narrowed.old) bs) }
-    ensures least { IfOk result (λ bs. (f : List ℕ) → IsAssignment narrowed.old (length narrowed.old) f → slice_index bs item ≤ slice_index f item) }
+    ensures least { IfOk result (λ bs. (f : List ℕ)
+        → IsAssignment narrowed.old (length narrowed.old) f
+        → slice_index bs item ≤ slice_index f item) }
 {
     let row = narrowed[item];
     let mut choices = choices;
@@ -167,7 +176,8 @@ fn by_bucket(
 ) -> Result<Vec<Option<u32>>, AllocError>
     requires few { count ≤ MOST_ITEMS }
     requires within { (i : ℕ) → i < count → slice_index choices.now i < buckets }
-    requires apart { (i j : ℕ) → i < j → j < count → slice_index choices.now i ≢ slice_index choices.now j }
+    requires apart { (i j : ℕ) → i < j → j < count → slice_index choices.now i
+        ≢ slice_index choices.now j }
     ensures length { IfOk result (λ placed. length placed.items ≡ buckets) }
     ensures inverse { IfOk result (λ placed. IsInverse count choices.now placed.items) }
 {

@@ -29,7 +29,8 @@ pub fn rows_needed(degree: u32, documents: u32, hits: u32, salt: u32) -> u32
     requires some { 1 ≤ hits }
     requires few { hits ≤ MOST_ITEMS }
     ensures value { result ≡ rows_of degree documents hits salt }
-    ensures least { IsRowCount (lists_of salt (bucket_count hits) documents) (records_a_row degree) result }
+    ensures least { IsRowCount (lists_of salt (bucket_count hits) documents)
+        (records_a_row degree) result }
 {
     let buckets = buckets(hits);
     let counts = list_lengths(salt, buckets, documents);
@@ -99,7 +100,8 @@ fn count_all(counts: &mut [u32], row: &[u32], document: u32)
 fn count_once(counts: &mut [u32], seen: &[u32], bucket: u32)
     requires within { bucket < length counts.old }
     requires room { is_in seen.now bucket ≡ false → slice_index counts.old bucket + 1 < 2 ^ 32 }
-    ensures { counts.new ≡ (if is_in seen.now bucket then counts.old else slice_set counts.old bucket (slice_index counts.old bucket + 1)) }
+    ensures { counts.new ≡ (if is_in seen.now bucket then counts.old
+        else slice_set counts.old bucket (slice_index counts.old bucket + 1)) }
 {
     if !seen.contains(&bucket) {
         counts[bucket as usize] += 1;

@@ -43,6 +43,11 @@ one-drawn secret ms m s body next rest last h e f =
       left = f ∙ ap (λ (r : Stream). (encryption_draw secret m r).1) h.left ∙ ap (λ (p : List Ciphertext × Stream). p.1) (sym more);
     }
 
+-- the one message of a body
+pub query-drawn : (secret : List ℤ) (m : List ℕ) (s : Stream) (body next : List ℕ) (last : Stream) → body ≡ []
+    → next ≡ body ++ cipher_bytes (encryption_draw secret m s).0 → last ≡ (encryption_draw secret m s).1 → IsDrawn secret (m ∷ []) s next last
+query-drawn secret m s body next last none e f = one-drawn secret [] m s body next s last (none-drawn secret s body s none refl) e f
+
 -- ---- queries for rows
 
 pub rows-more : (s : Numbers) (places : List ℕ) (i : ℕ) → i < length places

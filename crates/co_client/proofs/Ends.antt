@@ -29,10 +29,10 @@ use Rattle.co_rounds.specs.Asked.{asked_draw, AreKeywordMessages}
 use Rattle.co_rounds.specs.Plans.{plan_of, FollowsPlan}
 use Rattle.co_rounds.specs.Placing.{rows_asked}
 use Rattle.co_client.specs.declared.fault.SearchFault.{SearchFault}
-use Rattle.co_client.specs.declared.fault.SearchFault.TheVariants.{TooManyKeywords, BadPublic, Test, NoPlacement, Link, Refused, BadReply, WrongRecord, BadPlace, NotByte, BadRecord, OutOfMemory}
+use Rattle.co_client.specs.declared.fault.SearchFault.TheVariants.{TooManyKeywords, BadPublic, Test, Link, Refused, OutOfMemory}
 use Rattle.co_client.specs.declared.publishing.Published.{Published}
 use Rattle.co_client.specs.Causes.{Search, IsCause, IsAnswered}
-use Rattle.co_client.specs.Faults.{IsManyTerms}
+use Rattle.co_client.specs.Faults.{IsManyTerms, IsForFew}
 use Rattle.co_client.specs.Earlier.{taken, begun, EndsFirst}
 use Rattle.co_client.proofs.Whole_replies.{IsWholeReply, empty_well, none-all, more-all, begun-most}
 use Rattle.std.proofs.lemmas.Option.{none-some, same_Some}
@@ -57,37 +57,23 @@ nothing-first run result = record {
   recorded = λ s ts hits fault l h. absurd (omega (arith, l, begun-most result 0));
 }
 
+-- what is told where no exchange is made
+nothing-tells : (run : Search) (fault : SearchFault) (left : Stream) → (IsAnswered (Err fault) → ⊥) → IsCause run [] fault → IsForFew {X = Found} (length (distinct run.query)) (Err fault) → Tells run [] (Err fault) left
+nothing-tells run fault left open_end cause few = record {
+  follows = refl;
+  whole = λ a. absurd (open_end a);
+  read = tt;
+  refused = cause;
+  asked = λ s ts p t. absurd (no_first p.first p.others p.are);
+  goes = record { few = λ l. absurd (omega arith); tested = λ s ts p l. absurd (omega arith); taken = λ number e at l. absurd (omega arith) };
+  few = few;
+  earlier = nothing-first run (Err fault);
+}
+
 many-cause : (run : Search) (fault : SearchFault) → IsManyTerms (length (distinct run.query)) fault → Tells run [] (Err fault) run.stream
-many-cause run (TooManyKeywords found) h = record {
-  follows = refl;
-  whole = λ a. absurd a;
-  read = tt;
-  refused = (h.0, h.1, refl);
-  asked = λ s ts p t. absurd (no_first p.first p.others p.are);
-  goes = record { few = λ l. absurd (omega arith); tested = λ s ts p l. absurd (omega arith); taken = λ number e at l. absurd (omega arith) };
-  few = tt;
-  earlier = nothing-first run (Err (TooManyKeywords found));
-}
-many-cause run OutOfMemory h = record {
-  follows = refl;
-  whole = λ a. absurd a;
-  read = tt;
-  refused = tt;
-  asked = λ s ts p t. absurd (no_first p.first p.others p.are);
-  goes = record { few = λ l. absurd (omega arith); tested = λ s ts p l. absurd (omega arith); taken = λ number e at l. absurd (omega arith) };
-  few = tt;
-  earlier = nothing-first run (Err OutOfMemory);
-}
-many-cause run (BadPublic place) h = absurd h
-many-cause run (Test fault) h = absurd h
-many-cause run (NoPlacement documents buckets) h = absurd h
-many-cause run Link h = absurd h
-many-cause run (Refused target status) h = absurd h
-many-cause run (BadReply target place) h = absurd h
-many-cause run (WrongRecord wanted found) h = absurd h
-many-cause run (BadPlace document) h = absurd h
-many-cause run (NotByte target reply place) h = absurd h
-many-cause run (BadRecord document place) h = absurd h
+many-cause run (TooManyKeywords found) h = nothing-tells run (TooManyKeywords found) run.stream (λ a. a) (h.0, h.1, refl) tt
+many-cause run OutOfMemory h = nothing-tells run OutOfMemory run.stream (λ a. a) tt tt
+many-cause run fault h = absurd h
 
 pub many-told : (run : Search) (was : Option (List Exchange)) (fault : SearchFault) → IsManyTerms (length (distinct run.query)) fault → Told run was was (Err fault) run.stream
 many-told run was fault h = record { exchanges = []; makes = makes-none was; tells = many-cause run fault h }
@@ -142,19 +128,19 @@ read-good s ts body bytes e =
     (whole_takes (headed public_word fields) (λ (p : Numbers × List (List ℕ)). public_bytes p.0 p.1) (λ p. ArePublic p.0 p.1) public_format body (s, ts)
     (λ i. ⊎_elim (λ u. bytes i u) (λ u. subst (λ (x : ℕ). x < 256) (sym (get_or_past body i 0 u)) (omega arith)) (cases_lt i (length body))) e).1
 
-pub begun-of : (run : Search) (was now : Option (List Exchange)) (p : Published) → Consults (distinct run.query) was now p → length (distinct run.query) ≤ 16 → Begun run was now p.tested p.keywords p.unknown
+pub begun-of : (run : Search) (was now : Option (List Exchange)) (p : Published) → Consults was now p → length (distinct run.query) ≤ 16 → Begun run was now p.tested (numbers_of p.terms (distinct run.query)) (unknown_in p.terms (distinct run.query))
 begun-of run was now p c few =
     let s = p.tested in
-    let m = has-messages s (numbers_of c.terms (distinct run.query)) (degree-of s c.terms c.public.good) in
+    let m = has-messages s (numbers_of p.terms (distinct run.query)) (degree-of s p.terms c.public.good) in
     record {
-      terms = c.terms;
+      terms = p.terms;
       body = c.public.body;
       few = few;
       read = c.public.read;
       good = c.public.good;
       passes = c.passes;
-      keywords_are = c.keywords;
-      unknown_are = c.unknown;
+      keywords_are = refl;
+      unknown_are = refl;
       messages = m.messages;
       are = m.are;
       makes = makes-one was was now [] public_request (reply_with 200 c.public.body) (makes-none was) c.public.comes;
@@ -261,51 +247,20 @@ public-told run was now (Test fault) left few h l = record {
 }
 public-told run was now Link left few h l =
     let cause = l.failed refl in
-    record {
-      exchanges = [];
-      makes = makes-same was was now [] (makes-none was) h;
-      tells = record {
-        follows = refl;
-        whole = λ a. absurd a;
-        read = tt;
-        refused = record {
-          rose = cause.0;
-          call = record { target = targets_of.Public; limit = most_public };
-          next = record { next = refl; first = λ e. refl; later = λ s ts p. absurd (no_first p.first p.others p.are) };
-          is = cause.1;
-        };
-        asked = λ s ts p t. absurd (no_first p.first p.others p.are);
-        goes = record { few = λ u. absurd (omega arith); tested = λ s ts p u. absurd (omega arith); taken = λ number e at u. absurd (omega arith) };
-        few = few;
-        earlier = nothing-first run (Err Link);
-      };
-    }
-public-told run was now OutOfMemory left few (inl h) l = record {
-  exchanges = [];
-  makes = makes-same was was now [] (makes-none was) h;
-  tells = record {
-    follows = refl;
-    whole = λ a. absurd a;
-    read = tt;
-    refused = tt;
-    asked = λ s ts p t. absurd (no_first p.first p.others p.are);
-    goes = record { few = λ u. absurd (omega arith); tested = λ s ts p u. absurd (omega arith); taken = λ number e at u. absurd (omega arith) };
-    few = tt;
-    earlier = nothing-first run (Err OutOfMemory);
-  };
-}
+    let unmade : IsCause run [] Link = record {
+      rose = cause.0;
+      call = record { target = targets_of.Public; limit = most_public };
+      next = record { next = refl; first = λ e. refl; later = λ s ts p. absurd (no_first p.first p.others p.are) };
+      is = cause.1;
+    } in
+    record { exchanges = []; makes = makes-same was was now [] (makes-none was) h; tells = nothing-tells run Link left (λ a. a) unmade few }
+public-told run was now OutOfMemory left few (inl h) l = record { exchanges = []; makes = makes-same was was now [] (makes-none was) h; tells = nothing-tells run OutOfMemory left (λ a. a) tt tt }
 public-told run was now OutOfMemory left few (inr h) l = record {
   exchanges = first_of h.body ∷ [];
   makes = makes-one was was now [] public_request (reply_with 200 h.body) (makes-none was) h.comes;
   tells = public-tells run (first_of h.body) OutOfMemory left refl few (λ a. a) tt (one-refused run (first_of h.body) OutOfMemory refl refl) (λ s ts read t. degree-of s ts (read-good s ts h.body h.bytes read));
 }
-public-told run was now (BadReply target place) left few h l = absurd h
-public-told run was now (TooManyKeywords found) left few h l = absurd h
-public-told run was now (NoPlacement documents buckets) left few h l = absurd h
-public-told run was now (WrongRecord wanted found) left few h l = absurd h
-public-told run was now (BadPlace document) left few h l = absurd h
-public-told run was now (NotByte target reply place) left few h l = absurd h
-public-told run was now (BadRecord document place) left few h l = absurd h
+public-told run was now fault left few h l = absurd h
 
 -- ---- the round of the keys gives nothing
 

@@ -30,5 +30,6 @@ pub mod Ends
 pub mod RecordFaults
 pub mod Finishes
 pub mod Checked
+pub mod Recorded
 pub mod Conducted
 pub mod Tells_plainly

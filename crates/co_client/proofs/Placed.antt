@@ -14,7 +14,7 @@ use Rattle.co_bucket.specs.Bytes.{record_row, AreHeld}
 use Rattle.co_bucket.proofs.Standing.{fewest_rows, list_at, row_within}
 use Rattle.co_rounds.specs.Serving.{bucket_documents}
 use Rattle.co_rounds.specs.Placing.{row_asked, rows_asked, place_in_bucket}
-use Rattle.co_client.specs.Placings.{place_asked, places_asked}
+use Rattle.co_client.specs.Placings.{AreFree, place_asked, places_asked}
 
 -- the rows hold the list of each bucket
 held : (s : Numbers) (bucket : ℕ) → IsDegree s.degree → bucket < bucket_count s.hits → s.rows ≡ rows_of s.degree s.documents s.hits s.salt → AreHeld s.degree s.rows (λ d. replicate 256 0) (bucket_documents s bucket)
@@ -62,3 +62,7 @@ rows-are s hits placed =
 
 pub rows-long : (s : Numbers) (hits : List Ranked) (placed : List (Option ℕ)) → length (rows_asked s hits placed) ≡ bucket_count s.hits
 rows-long s hits placed = length-map-range_with_len (λ b. row_asked s hits (get_or placed b None) b) 0 (bucket_count s.hits)
+
+-- where no bucket has a hit, the first row of each is asked
+pub free-rows : (s : Numbers) (hits others : List Ranked) (placed : List (Option ℕ)) → AreFree (bucket_count s.hits) placed → rows_asked s hits placed ≡ rows_asked s others []
+free-rows s hits others placed h = λ t. map (λ b. row_asked s hits (h.free b t) b) (range_with_len 0 (bucket_count s.hits))

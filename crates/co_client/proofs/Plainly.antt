@@ -1,5 +1,5 @@
 -- What a search answers over honest exchanges: the plain answer, or a refusal that is no fault of the replies.
-use Rattle.std.proofs.Common.{◌≡◌, ◌≢◌, ℕ, zero, suc, ◌*◌, ◌<◌, ◌≤◌, ◌⊎◌, inl, inr, ⊎_elim, refl, sym, ap, subst, ◌∙◌, arith, mul_assoc, le_of_mul-le-mul_right, le_of_eq, le_antisymm, List, [], ◌∷◌, ◌++◌, length, take, map, Option, Some, Result, Ok, Err, IfOk, IfErr}
+use Rattle.std.proofs.Common.{◌≡◌, ◌≢◌, ℕ, zero, suc, ◌*◌, ◌<◌, ◌≤◌, ◌⊎◌, ⊎_elim, refl, sym, ap, subst, ◌∙◌, arith, mul_assoc, le_of_mul-le-mul_right, le_of_eq, le_antisymm, List, [], ◌∷◌, ◌++◌, length, take, map, Option, Some, Result, Ok, Err, IfOk, IfErr}
 use Rattle.std.specs.Prelude.{slice_get}
 use Rattle.std.proofs.lemmas.Option.{none-some, same_Some, slice_get_within}
 use Rattle.std.proofs.lemmas.List.{length-map, length-take}
@@ -22,14 +22,12 @@ use Rattle.co_corpus.specs.declared.documents.Document.{Document}
 use Rattle.co_tfidf.specs.Hits.{hit_of}
 use Rattle.co_tfidf.specs.Found.{picked, found}
 use Rattle.co_tfidf.specs.Vocabulary.{vocabulary}
-use Rattle.co_wire.specs.declared.fault.WireFault.TheVariants.{Length as WrongLength, Range as WrongRange, OutOfMemory as NoMemory}
 use Rattle.co_wire.specs.Bodies.{keys_bytes, ciphers_bytes, SpellsCiphers, SpellsKeys}
 use Rattle.co_wire.specs.Lengths.{request_size, reply_size}
 use Rattle.co_wire.specs.Public.{public_of}
-use Rattle.co_wire.proofs.Good_bodies.{good-list}
 use Rattle.co_library.specs.declared.settings.Settings.{Settings}
 use Rattle.co_library.specs.Libraries.{Parts, IsLibrary}
-use Rattle.co_rounds.specs.Answers.{Spells, HandsOver, IsGoodRequest, reply_with}
+use Rattle.co_rounds.specs.Answers.{HandsOver, IsGoodRequest, reply_with}
 use Rattle.co_rounds.specs.Honest.{IsHonest, AreHonest}
 use Rattle.co_rounds.specs.Plans.{Seen, trace, targets, plan_of, FollowsPlan}
 use Rattle.co_rounds.specs.Placing.{CanBePlaced, IsUnplaced}

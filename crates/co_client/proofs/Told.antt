@@ -1,8 +1,7 @@
 -- What a search tells where it ends: one round after another.
 use Rattle.std.proofs.Common.{◌≡◌, ◌≢◌, ℕ, zero, suc, ◌+◌, ◌-◌, ◌<◌, ◌≤◌, inl, inr, refl, sym, ap, subst, ◌∙◌, arith, List, [], ◌∷◌, ◌++◌, length, Option, Some, Result, Ok, Err}
 use Rattle.std.specs.Prelude.{All, IfOk, IfErr, slice_get}
-use Rattle.std.proofs.lemmas.Option.{none-some, same_Some}
-use Rattle.std.proofs.lemmas.List.Elements.{All-head, All-tail}
+use Rattle.std.proofs.lemmas.Option.{same_Some}
 use Rattle.rand_core.specs.Stream.{Stream}
 use Rattle.co_link.specs.Exchanges.{LinkCall, exchange_of}
 use Rattle.co_link.specs.declared.messages.Target.{Target}
@@ -26,7 +25,7 @@ use Rattle.co_rounds.specs.Asked.{asked_draw, AreKeywordMessages}
 use Rattle.co_rounds.specs.Plans.{targets, made}
 use Rattle.co_rounds.specs.Placing.{choices_of, rows_asked, IsUnplaced}
 use Rattle.co_client.specs.declared.fault.SearchFault.{SearchFault}
-use Rattle.co_client.specs.declared.fault.SearchFault.TheVariants.{TooManyKeywords, BadPublic, Test, NoPlacement, Link, Refused, BadReply, WrongRecord, BadPlace, NotByte, BadRecord, OutOfMemory}
+use Rattle.co_client.specs.declared.fault.SearchFault.TheVariants.{TooManyKeywords, Link, Refused, BadReply, OutOfMemory}
 use Rattle.co_client.specs.Causes.{Search, Publishes, IsRead, IsCause, IsAnswered, Asks, ReadsHits, ReadsRecords}
 use Rattle.co_client.specs.Going.{GoesOn}
 use Rattle.co_client.specs.Earlier.{taken, begun, EndsFirst}
@@ -42,19 +41,9 @@ use Rattle.co_client.proofs.Whole_replies.{IsWholeReply, got-within, front-withi
 -- ---- few terms
 
 pub for-few : (number : ℕ) → number ≤ 16 → (result : Result Found SearchFault) → IsForFew number result
-for-few number few (Ok x) = few
 for-few number few (Err (TooManyKeywords found)) = tt
 for-few number few (Err OutOfMemory) = tt
-for-few number few (Err (BadPublic place)) = few
-for-few number few (Err (Test fault)) = few
-for-few number few (Err (NoPlacement documents buckets)) = few
-for-few number few (Err Link) = few
-for-few number few (Err (Refused target status)) = few
-for-few number few (Err (BadReply target place)) = few
-for-few number few (Err (WrongRecord wanted found)) = few
-for-few number few (Err (BadPlace document)) = few
-for-few number few (Err (NotByte target reply place)) = few
-for-few number few (Err (BadRecord document place)) = few
+for-few number few result = few
 
 -- ---- rows and bin
 
@@ -237,14 +226,7 @@ module _ (run : Search) (s : Numbers) (ts ms : List (List ℕ)) (first : Exchang
         makes = one-made h.reply h.comes;
         tells = tells-one r h.reply OutOfMemory left (more h.reply) (right_more h.reply) (λ a. a) tt (λ n. refl) (λ n. refl) (recorded_more h.reply);
       }
-      round-told (TooManyKeywords found) h l = absurd h
-      round-told (BadPublic place) h l = absurd h
-      round-told (Test fault) h l = absurd h
-      round-told (NoPlacement documents buckets) h l = absurd h
-      round-told (WrongRecord wanted found) h l = absurd h
-      round-told (BadPlace document) h l = absurd h
-      round-told (NotByte target reply place) h l = absurd h
-      round-told (BadRecord document place) h l = absurd h
+      round-told fault h l = absurd h
 
 -- ---- the clauses of a search
 

@@ -1,5 +1,5 @@
 -- A reply that spells what it is to spell is not refused, and an end at the first cause.
-use Rattle.std.proofs.Common.{◌≡◌, ℕ, zero, suc, ◌+◌, ◌-◌, ◌*◌, ◌<◌, ◌≤◌, inl, inr, refl, sym, ap, subst, ◌∙◌, arith, List, [], ◌∷◌, ◌++◌, length, Result, Ok, Err}
+use Rattle.std.proofs.Common.{◌≡◌, ℕ, zero, suc, ◌+◌, ◌*◌, ◌<◌, ◌≤◌, inl, inr, refl, sym, ap, subst, ◌∙◌, arith, List, [], ◌∷◌, ◌++◌, length, Result, Err}
 use Rattle.std.specs.Prelude.{All, Some, slice_get}
 use Rattle.std.proofs.lemmas.Option.{none-some, same_Some}
 use Rattle.std.proofs.lemmas.List.Elements.{All-head, All-tail}
@@ -11,7 +11,7 @@ use Rattle.co_wire.specs.Lengths.{reply_size}
 use Rattle.co_wire.proofs.Good_bodies.{good-list}
 use Rattle.co_rounds.specs.Answers.{Spells}
 use Rattle.co_client.specs.declared.fault.SearchFault.{SearchFault}
-use Rattle.co_client.specs.declared.fault.SearchFault.TheVariants.{TooManyKeywords, BadPublic, Test, NoPlacement, Link, Refused, BadReply, WrongRecord, BadPlace, NotByte, BadRecord, OutOfMemory}
+use Rattle.co_client.specs.declared.fault.SearchFault.TheVariants.{Link, OutOfMemory}
 use Rattle.co_client.specs.Openings.{IsBadReply}
 use Rattle.co_client.specs.Earlier.{taken, begun}
 
@@ -58,31 +58,9 @@ more-all P x xs p all (suc i) d l = all i d (omega arith)
 -- ---- counts
 
 pub taken-most : (result : Result Found SearchFault) (n : ℕ) → taken result n ≤ n
-taken-most (Ok f) n = omega arith
-taken-most (Err (BadPublic place)) n = omega arith
-taken-most (Err (Refused target status)) n = omega arith
-taken-most (Err (BadReply target place)) n = omega arith
 taken-most (Err OutOfMemory) n = omega arith
-taken-most (Err (TooManyKeywords found)) n = omega arith
-taken-most (Err (Test fault)) n = omega arith
-taken-most (Err (NoPlacement documents buckets)) n = omega arith
-taken-most (Err Link) n = omega arith
-taken-most (Err (WrongRecord wanted found)) n = omega arith
-taken-most (Err (BadPlace document)) n = omega arith
-taken-most (Err (NotByte target reply place)) n = omega arith
-taken-most (Err (BadRecord document place)) n = omega arith
+taken-most result n = omega arith
 
 pub begun-most : (result : Result Found SearchFault) (n : ℕ) → begun result n ≤ n + 1
-begun-most (Ok f) n = omega arith
 begun-most (Err Link) n = omega arith
-begun-most (Err (TooManyKeywords found)) n = omega arith
-begun-most (Err (BadPublic place)) n = omega arith
-begun-most (Err (Test fault)) n = omega arith
-begun-most (Err (NoPlacement documents buckets)) n = omega arith
-begun-most (Err (Refused target status)) n = omega arith
-begun-most (Err (BadReply target place)) n = omega arith
-begun-most (Err (WrongRecord wanted found)) n = omega arith
-begun-most (Err (BadPlace document)) n = omega arith
-begun-most (Err (NotByte target reply place)) n = omega arith
-begun-most (Err (BadRecord document place)) n = omega arith
-begun-most (Err OutOfMemory) n = omega arith
+begun-most result n = omega arith

@@ -8,41 +8,22 @@ use Rattle.co_text.specs.declared.ranks.Ranked.{Ranked}
 use Rattle.co_wire.specs.Public.{public_of}
 use Rattle.co_wire.specs.Lengths.{reply_size}
 use Rattle.co_client.specs.declared.fault.SearchFault.{SearchFault}
-use Rattle.co_client.specs.declared.fault.SearchFault.TheVariants.{TooManyKeywords, BadPublic, Test, NoPlacement, Link, Refused, BadReply, WrongRecord, BadPlace, NotByte, BadRecord, OutOfMemory}
+use Rattle.co_client.specs.declared.fault.SearchFault.TheVariants.{BadPublic, Link, Refused, BadReply, OutOfMemory}
 use Rattle.co_client.specs.Openings.{IsBadReply}
 use Rattle.co_client.specs.Causes.{Search, Publishes, ReadsRecords}
 
 -- how many of so many replies were taken: not the last one where it is refused, nor where memory is wanting
 abbrev pub taken : Result Found SearchFault → ℕ → ℕ
-taken (Ok f) n = n
 taken (Err (BadPublic place)) n = n - 1
 taken (Err (Refused target status)) n = n - 1
 taken (Err (BadReply target place)) n = n - 1
 taken (Err OutOfMemory) n = n - 1
-taken (Err (TooManyKeywords found)) n = n
-taken (Err (Test fault)) n = n
-taken (Err (NoPlacement documents buckets)) n = n
-taken (Err Link) n = n
-taken (Err (WrongRecord wanted found)) n = n
-taken (Err (BadPlace document)) n = n
-taken (Err (NotByte target reply place)) n = n
-taken (Err (BadRecord document place)) n = n
+taken result n = n
 
 -- how many exchanges were begun where so many were made: one more where the link failed
 abbrev pub begun : Result Found SearchFault → ℕ → ℕ
-begun (Ok f) n = n
 begun (Err Link) n = n + 1
-begun (Err (TooManyKeywords found)) n = n
-begun (Err (BadPublic place)) n = n
-begun (Err (Test fault)) n = n
-begun (Err (NoPlacement documents buckets)) n = n
-begun (Err (Refused target status)) n = n
-begun (Err (BadReply target place)) n = n
-begun (Err (WrongRecord wanted found)) n = n
-begun (Err (BadPlace document)) n = n
-begun (Err (NotByte target reply place)) n = n
-begun (Err (BadRecord document place)) n = n
-begun (Err OutOfMemory) n = n
+begun result n = n
 
 -- the status of each reply that was taken is 200, its body is good, the numbers passed the test before the keys were
 -- handed over, and the records were read before the document was asked for

@@ -8,5 +8,6 @@ pub mod Telling
 pub mod Rounds
 pub mod Openings
 pub mod Placings
+pub mod Gathered
 pub mod Published
 pub mod Sure

@@ -6,7 +6,7 @@ use Rattle.co_slots.specs.declared.payloads.ByteFault.TheVariants as faults
 use Rattle.co_bfv.specs.Ciphertexts.{Ciphertext}
 use Rattle.co_wire.specs.Bodies.{SpellsCiphers, IsFirstOutOfRange}
 use Rattle.co_client.specs.declared.fault.SearchFault.{SearchFault}
-use Rattle.co_client.specs.declared.fault.SearchFault.TheVariants.{TooManyKeywords, BadPublic, Test, NoPlacement, Link, Refused, BadReply, WrongRecord, BadPlace, NotByte, BadRecord, OutOfMemory}
+use Rattle.co_client.specs.declared.fault.SearchFault.TheVariants.{BadReply, OutOfMemory}
 
 -- the place of what is wrong in a body that is to have so many bytes: the lesser of the two lengths where they
 -- differ, else the first residue out of range
@@ -17,16 +17,7 @@ IsBadReply size body place = ((length body ≢ size) × (place ≡ min (length b
 abbrev pub IsRefusedBody : ℕ → Target → List ℕ → SearchFault → Type 0
 IsRefusedBody size target body (BadReply t place) = (t ≡ target) × IsBadReply size body place
 IsRefusedBody size target body OutOfMemory = Unit {0}
-IsRefusedBody size target body (TooManyKeywords found) = ⊥
-IsRefusedBody size target body (BadPublic place) = ⊥
-IsRefusedBody size target body (Test fault) = ⊥
-IsRefusedBody size target body (NoPlacement documents buckets) = ⊥
-IsRefusedBody size target body Link = ⊥
-IsRefusedBody size target body (Refused t status) = ⊥
-IsRefusedBody size target body (WrongRecord wanted found) = ⊥
-IsRefusedBody size target body (BadPlace document) = ⊥
-IsRefusedBody size target body (NotByte t reply place) = ⊥
-IsRefusedBody size target body (BadRecord document place) = ⊥
+IsRefusedBody size target body fault = ⊥
 
 -- the body spells so many ciphertexts of degree n
 pub record AreSpelled (n count : ℕ) (body : List ℕ) : Type 0 where

@@ -10,28 +10,27 @@ use Rattle.co_client.specs.Records.{bucket_of}
 use Rattle.co_text.specs.declared.found.Found.{Found}
 use Rattle.co_client.specs.declared.fault.SearchFault.{SearchFault}
 use Rattle.co_client.specs.declared.fault.SearchFault.TheVariants.{NoPlacement}
-use Rattle.co_client.specs.declared.placing.Placing.{Placing}
-use Rattle.co_client.specs.declared.placing.Placing.TheVariants.{Placed, Unplaced}
 
--- the hits are placed by the least assignment, or there is none
-abbrev pub IsPlacing : Numbers → List Ranked → Placing → Type 0
-IsPlacing s hits (Placed placed) = IsPlacement (choices_of s hits) (bucket_count s.hits) placed
-IsPlacing s hits (Unplaced documents buckets) = IsUnplaced s hits documents buckets
+-- so many buckets, none of which has a hit
+pub record AreFree (count : ℕ) (placed : List (Option ℕ)) : Type 0 where
+  pub each_bucket : length placed ≡ count
+  pub free : (bucket : ℕ) → slice_index_or placed bucket None ≡ None
 
--- bucket by bucket the rank of the hit that is placed there
-abbrev pub by_bucket : Placing → List (Option ℕ)
-by_bucket (Placed placed) = placed
-by_bucket (Unplaced documents buckets) = []
+-- the hits are placed by the least assignment; or no bucket has one, and a witness, documents and buckets, tells that
+-- there is no assignment
+abbrev pub ArePlaced : Numbers → List Ranked → List (Option ℕ) → Option (List ℕ × List ℕ) → Type 0
+ArePlaced s hits placed None = IsPlacement (choices_of s hits) (bucket_count s.hits) placed
+ArePlaced s hits placed (Some witness) = IsUnplaced s hits witness.0 witness.1 × AreFree (bucket_count s.hits) placed
 
--- the hits whose records are read
-abbrev pub shown_of : Placing → List Ranked → List Ranked
-shown_of (Placed placed) hits = hits
-shown_of (Unplaced documents buckets) hits = []
+-- the hits whose records are read: all where they are placed, else none
+abbrev pub shown_of : Option (List ℕ × List ℕ) → List Ranked → List Ranked
+shown_of None hits = hits
+shown_of (Some witness) hits = []
 
 -- the answer where the hits are placed, else that they can't be
-abbrev pub concluded : Placing → Found → Result Found SearchFault
-concluded (Placed placed) f = Ok f
-concluded (Unplaced documents buckets) f = Err (NoPlacement documents buckets)
+abbrev pub concluded : Option (List ℕ × List ℕ) → Found → Result Found SearchFault
+concluded None f = Ok f
+concluded (Some witness) f = Err (NoPlacement witness.0 witness.1)
 
 -- each hit has its bucket
 pub record HaveBuckets (s : Numbers) (hits : List Ranked) (placed : List (Option ℕ)) : Type 0 where

@@ -12,7 +12,7 @@ use Rattle.co_library.specs.declared.settings.Settings.{Settings}
 use Rattle.co_library.specs.Libraries.{Parts}
 use Rattle.co_rounds.specs.Placing.{CanBePlaced, IsUnplaced}
 use Rattle.co_client.specs.declared.fault.SearchFault.{SearchFault}
-use Rattle.co_client.specs.declared.fault.SearchFault.TheVariants.{TooManyKeywords, BadPublic, Test, NoPlacement, Link, Refused, BadReply, WrongRecord, BadPlace, NotByte, BadRecord, OutOfMemory}
+use Rattle.co_client.specs.declared.fault.SearchFault.TheVariants.{TooManyKeywords, Test, NoPlacement, Link, Refused, OutOfMemory}
 
 -- the hits of the plain answer, by document and score
 abbrev pub plain_hits : List Document → Settings → List (List ℕ) → List Ranked
@@ -29,9 +29,4 @@ AnswersPlainly documents settings l query pick (Err (Test fault)) = test_of l.sh
 AnswersPlainly documents settings l query pick (Err (Refused target status)) = status ≡ 503
 AnswersPlainly documents settings l query pick (Err Link) = Unit {0}
 AnswersPlainly documents settings l query pick (Err OutOfMemory) = Unit {0}
-AnswersPlainly documents settings l query pick (Err (BadPublic place)) = ⊥
-AnswersPlainly documents settings l query pick (Err (BadReply target place)) = ⊥
-AnswersPlainly documents settings l query pick (Err (WrongRecord wanted other)) = ⊥
-AnswersPlainly documents settings l query pick (Err (BadPlace document)) = ⊥
-AnswersPlainly documents settings l query pick (Err (NotByte target reply place)) = ⊥
-AnswersPlainly documents settings l query pick (Err (BadRecord document place)) = ⊥
+AnswersPlainly documents settings l query pick (Err fault) = ⊥

@@ -7,13 +7,12 @@ use Rattle.co_math.specs.Coefficients.{AreBelow}
 use Rattle.co_noise.specs.Shapes.{Numbers}
 use Rattle.co_noise.specs.Bounds.{test_of}
 use Rattle.co_noise.specs.declared.testing.TestFault.{TestFault}
-use Rattle.co_text.specs.Numbers.{numbers_of, unknown_in}
 use Rattle.co_wire.specs.Public.{ArePublic, public_of}
 use Rattle.co_rounds.specs.Answers.{reply_with}
 use Rattle.co_client.specs.Rounds.{Comes, ComesNone, RefusesStatus}
 use Rattle.co_client.specs.declared.publishing.Published.{Published}
 use Rattle.co_client.specs.declared.fault.SearchFault.{SearchFault}
-use Rattle.co_client.specs.declared.fault.SearchFault.TheVariants.{TooManyKeywords, BadPublic, Test, NoPlacement, Link, Refused, BadReply, WrongRecord, BadPlace, NotByte, BadRecord, OutOfMemory}
+use Rattle.co_client.specs.declared.fault.SearchFault.TheVariants.{BadPublic, Test, Link, Refused, OutOfMemory}
 
 -- the request for them
 abbrev pub public_request : Request
@@ -26,13 +25,10 @@ pub record IsPublic (was now : Option (List Exchange)) (s : Numbers) (terms : Li
   pub read : public_of body ≡ Ok (s, terms)
   pub good : ArePublic s terms
 
--- what was published, where the numbers pass the test, and the query's terms in it
-pub record Consults (query : List (List ℕ)) (was now : Option (List Exchange)) (p : Published) : Type 0 where
-  pub terms : List (List ℕ)
-  pub public : IsPublic was now p.tested terms
+-- this was published, and the numbers pass the test
+pub record Consults (was now : Option (List Exchange)) (p : Published) : Type 0 where
+  pub public : IsPublic was now p.tested p.terms
   pub passes : test_of p.tested ≡ Ok p.tested
-  pub keywords : p.keywords ≡ numbers_of terms query
-  pub unknown : p.unknown ≡ unknown_in terms query
 
 -- the body is none of public bytes
 pub record RefusesPublic (was now : Option (List Exchange)) (place : ℕ) : Type 0 where
@@ -60,10 +56,4 @@ PublicFails was now (BadPublic place) = RefusesPublic was now place
 PublicFails was now (Test fault) = FailsTest was now fault
 PublicFails was now Link = ComesNone was now
 PublicFails was now OutOfMemory = ComesNone was now ⊎ ComesPublic was now
-PublicFails was now (BadReply target place) = ⊥
-PublicFails was now (TooManyKeywords found) = ⊥
-PublicFails was now (NoPlacement documents buckets) = ⊥
-PublicFails was now (WrongRecord wanted found) = ⊥
-PublicFails was now (BadPlace document) = ⊥
-PublicFails was now (NotByte target reply place) = ⊥
-PublicFails was now (BadRecord document place) = ⊥
+PublicFails was now fault = ⊥

@@ -22,7 +22,7 @@ use Rattle.co_rounds.specs.Asked.{encryptions_draw, row_message}
 use Rattle.co_rounds.specs.Scoring.{scores_read}
 use Rattle.co_client.specs.Openings.{IsBadReply, AreSpelled}
 use Rattle.co_client.specs.declared.fault.SearchFault.{SearchFault}
-use Rattle.co_client.specs.declared.fault.SearchFault.TheVariants.{TooManyKeywords, BadPublic, Test, NoPlacement, Link, Refused, BadReply, WrongRecord, BadPlace, NotByte, BadRecord, OutOfMemory}
+use Rattle.co_client.specs.declared.fault.SearchFault.TheVariants.{Link, Refused, BadReply, OutOfMemory}
 
 -- a reader of a library: its numbers, which passed the test, and the secret
 pub record ReaderState : Type 0 where
@@ -66,15 +66,7 @@ abbrev pub AskFails : Option (List Exchange) → Option (List Exchange) → Requ
 AskFails was now r (Refused target status) = RefusesStatus was now r target status
 AskFails was now r Link = ComesNone was now
 AskFails was now r OutOfMemory = ComesNone was now
-AskFails was now r (BadReply target place) = ⊥
-AskFails was now r (TooManyKeywords found) = ⊥
-AskFails was now r (BadPublic place) = ⊥
-AskFails was now r (Test fault) = ⊥
-AskFails was now r (NoPlacement documents buckets) = ⊥
-AskFails was now r (WrongRecord wanted found) = ⊥
-AskFails was now r (BadPlace document) = ⊥
-AskFails was now r (NotByte target reply place) = ⊥
-AskFails was now r (BadRecord document place) = ⊥
+AskFails was now r fault = ⊥
 
 -- what a round tells where it gives nothing: want of memory before the exchange or after it, a failed link, or the
 -- reply that is refused
@@ -83,14 +75,7 @@ RoundFails size was now r (Refused target status) = RefusesStatus was now r targ
 RoundFails size was now r (BadReply target place) = RefusesBody size was now r target place
 RoundFails size was now r Link = ComesNone was now
 RoundFails size was now r OutOfMemory = ComesNone was now ⊎ ComesSomehow was now r
-RoundFails size was now r (TooManyKeywords found) = ⊥
-RoundFails size was now r (BadPublic place) = ⊥
-RoundFails size was now r (Test fault) = ⊥
-RoundFails size was now r (NoPlacement documents buckets) = ⊥
-RoundFails size was now r (WrongRecord wanted found) = ⊥
-RoundFails size was now r (BadPlace document) = ⊥
-RoundFails size was now r (NotByte target reply place) = ⊥
-RoundFails size was now r (BadRecord document place) = ⊥
+RoundFails size was now r fault = ⊥
 
 -- a failed link has its cause: the count rose, and the last failed exchange is this call
 pub record LinkFails {T : Type 0} (before now : ℕ) (is : Option LinkCall) (call : LinkCall) (result : Result T SearchFault) : Type 0 where

@@ -8,6 +8,9 @@ ghost use Rattle.co_client.specs.Rounds.{Comes, AskFails, LinkFails};
 use crate::fault::SearchFault;
 use co_link::{Bytes, Link, LinkFault, Request, Target};
 
+/// The least that a reply may have, so that the text of a refusal is read.
+pub(crate) const LEAST_LIMIT: u64 = 256;
+
 /// Each is a byte.
 pub(crate) fn are_bytes(bytes: &[u8])
     ensures { AreBelow 256 bytes.now }

@@ -11,16 +11,14 @@ ghost use Rattle.co_client.specs.Rounds.{RoundFails, LinkFails, Gives, queries_r
 ghost use Rattle.co_client.specs.Records.{text_read, picked_record, picked_read, bin_asked};
 ghost use Rattle.co_client.specs.Faults.{IsReadAs};
 
-use crate::asking::ask;
 use crate::fault::SearchFault;
-use crate::querying::put_row;
-use crate::reading::{check_reply, open_part};
-use crate::scoring::LEAST_LIMIT;
+use crate::querying::{ask_ciphers, put_row};
+use crate::reading::open_part;
 use crate::starting::Reader;
 use co_link::{Bytes, Link, Target};
 use co_pack::{Place, Record};
 use co_ring::Degree;
-use co_wire::{reply_length, request_length};
+use co_wire::request_length;
 use rand_core::Rng;
 use std::alloc::{AllocError, Global};
 
@@ -62,26 +60,11 @@ pub fn fetch<K: Link, R: Rng>(
     ensures ready { K.is_ready link.new ≡ true }
     ensures beside { K.beside link.new ≡ K.beside link.old }
 {
-    let shape = reader.tested().shape();
-    let degree = Degree::of(shape.degree() as usize);
     let Ok(query) = bin_query(alloc, reader, bin, rng) else {
         return Err(SearchFault::OutOfMemory);
     };
-    let limit = reply_length(reader.tested(), Target::Document).max(LEAST_LIMIT);
-    let body = match ask(link, Target::Document, query, limit) {
-        Ok(body) => body,
-        Err(fault) => return Err(fault),
-    };
-    match check_reply(
-        alloc,
-        degree,
-        shape.chunks(),
-        Target::Document,
-        body.as_slice(),
-    ) {
-        Ok(()) => Ok(body),
-        Err(fault) => Err(fault),
-    }
+    let chunks = reader.tested().shape().chunks();
+    ask_ciphers(alloc, link, reader, Target::Document, query, chunks)
 }
 
 /// The bin of the picked record, the first where there is none.

@@ -15,6 +15,7 @@ pub mod laws;
 mod placing;
 mod publishing;
 mod querying;
+mod ranking;
 mod reading;
 mod recording;
 mod scoring;
@@ -24,5 +25,8 @@ mod starting;
 mod tests;
 
 pub use fault::SearchFault;
+pub use placing::Witness;
+pub use ranking::{Ranked, rank};
+pub use recording::records;
 pub use searching::search;
 pub use starting::{Reader, start};

@@ -9,7 +9,7 @@ ghost use Rattle.co_bucket.specs.Lists.{bucket_count, lists_of};
 ghost use Rattle.co_bucket.specs.Rows.{rows_of};
 ghost use Rattle.co_bucket.specs.Bytes.{record_row};
 ghost use Rattle.co_rounds.specs.Placing.{choices_of, document_at};
-ghost use Rattle.co_client.specs.Placings.{IsPlacing, by_bucket, shown_of, place_asked, places_asked};
+ghost use Rattle.co_client.specs.Placings.{ArePlaced, AreFree, place_asked, places_asked};
 
 use co_bucket::{
     Lists, MOST_ITEMS, Numbers, PlaceFault, Placement, bucket_lists, buckets, candidates, place,
@@ -19,38 +19,16 @@ use co_text::Ranked;
 use std::alloc::{AllocError, Global};
 use std::collections::BTreeSet;
 
-/// Where hits are placed, bucket by bucket, or the witness that they can't be.
+/// Documents and buckets, ascending, one bucket fewer than documents: why hits can't be placed.
+pub type Witness = (Numbers, Numbers);
+
+/// Where hits are placed.
 #[derive(Drop)]
-pub enum Placing {
-    /// Bucket by bucket the rank of the hit, from 0.
-    Placed(Placement),
-    /// Documents and buckets, ascending, one bucket fewer than documents.
-    Unplaced {
-        documents: Numbers,
-        buckets: Numbers,
-    },
-}
-
-impl Placing {
-    /// Bucket by bucket the rank of the hit that is placed there; nothing where they can't be placed.
-    pub fn by_bucket(&self) -> &[Option<u32>]
-        ensures { result.now ≡ by_bucket self.now }
-    {
-        match self {
-            Placing::Placed(placed) => placed.as_slice(),
-            Placing::Unplaced { .. } => &[],
-        }
-    }
-
-    /// The hits whose records are read: all of them, or none where they can't be placed.
-    pub fn shown<'h>(&self, hits: &'h [Ranked]) -> &'h [Ranked]
-        ensures { result.now ≡ shown_of self.now hits.now }
-    {
-        match self {
-            Placing::Placed(_) => hits,
-            Placing::Unplaced { .. } => &[],
-        }
-    }
+pub struct Placing {
+    /// Bucket by bucket the rank of the hit that is placed there, from 0.
+    pub buckets: Placement,
+    /// Why they can't be placed. Then no bucket has a hit.
+    pub refused: Option<Witness>,
 }
 
 /// The candidate buckets of each hit, by rank.
@@ -102,19 +80,33 @@ fn list_of(alloc: Global, numbers: &BTreeSet<u32>) -> Result<Numbers, AllocError
     Ok(list)
 }
 
+/// So many buckets without a hit.
+fn free_buckets(alloc: Global, count: u32) -> Result<Placement, AllocError>
+    ensures { IfOk result (AreFree count) }
+{
+    Ok(Placement::from_vec(vec![in alloc; None; count as usize]?))
+}
+
 /// Places the hits of a search, each in one of its candidate buckets, no two in one.
 pub fn place_hits(alloc: Global, shape: &Shape, hits: &[Ranked]) -> Result<Placing, AllocError>
     requires { length hits.now ≤ MOST_ITEMS }
-    ensures { IfOk result (IsPlacing shape.now hits.now) }
+    ensures { IfOk result (λ placing. ArePlaced shape.now hits.now placing.buckets placing.refused) }
 {
     let _ = shape.degree();
+    let count = buckets(shape.hits());
     let choices = choices(alloc, shape, hits)?;
-    match place(alloc, &choices, buckets(shape.hits())) {
-        Ok(placed) => Ok(Placing::Placed(placed)),
+    match place(alloc, &choices, count) {
+        Ok(placed) => Ok(Placing {
+            buckets: placed,
+            refused: None,
+        }),
         Err(PlaceFault::NoPlacement { items, buckets }) => {
             let ascending = ranked_documents(alloc, hits, items.as_slice())?;
             let documents = list_of(alloc, &ascending)?;
-            Ok(Placing::Unplaced { documents, buckets })
+            Ok(Placing {
+                buckets: free_buckets(alloc, count)?,
+                refused: Some((documents, buckets)),
+            })
         }
         Err(PlaceFault::OutOfMemory) => Err(AllocError),
     }

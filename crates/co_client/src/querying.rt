@@ -1,16 +1,23 @@
-//! Queries, spelled one after another into the body of a request.
+//! Queries, spelled one after another into the body of a request, and what is asked with them.
 
-ghost use Rattle.std.specs.Prelude.{◌≡◌, ◌<◌, ◌≤◌, ◌++◌, length, OnOk};
+ghost use Rattle.std.specs.Prelude.{◌≡◌, ◌≢◌, ◌*◌, ◌<◌, ◌≤◌, ◌++◌, true, length, IfOk, IfErr, OnOk};
+ghost use Rattle.co_link.specs.declared.messages.Target.TheVariants as targets;
 ghost use Rattle.co_ring.specs.Polynomials.{degree_of};
 ghost use Rattle.co_bfv.specs.Draws.{encryption_draw};
 ghost use Rattle.co_wire.specs.Bodies.{cipher_bytes};
+ghost use Rattle.co_wire.specs.Lengths.{cipher_size, reply_size, reply_limit};
 ghost use Rattle.co_rounds.specs.Asked.{row_message};
+ghost use Rattle.co_client.specs.Rounds.{RoundFails, LinkFails, Gives};
 
+use crate::asking::{LEAST_LIMIT, ask};
+use crate::fault::SearchFault;
+use crate::reading::check_reply;
 use crate::starting::Reader;
 use co_bfv::{Secret, encrypt};
+use co_link::{Bytes, Link, Target};
 use co_pir::query_message;
 use co_ring::{Degree, Modulus, Poly};
-use co_wire::write_ciphers;
+use co_wire::{reply_length, write_ciphers};
 use rand_core::Rng;
 use std::alloc::{AllocError, Global};
 
@@ -52,4 +59,34 @@ pub(crate) fn put_row<R: Rng>(
     let degree = Degree::of(shape.degree() as usize);
     let message = query_message(alloc, degree, rows, row)?;
     put_query(alloc, secret, &message, rng, body)
+}
+
+/// Asks with a body of queries, and gives the body of the reply, which spells so many ciphertexts.
+pub(crate) fn ask_ciphers<K: Link>(
+    alloc: Global,
+    link: &mut K,
+    reader: &Reader,
+    target: Target,
+    queries: Bytes,
+    count: u32,
+) -> Result<Bytes, SearchFault>
+    requires ready { K.is_ready link.old ≡ true }
+    requires target { (target ≢ targets.Public) × (target ≢ targets.Keys) }
+    requires count { count * cipher_size reader.now.shape.degree ≡ reply_size reader.now.shape target }
+    ensures came { IfOk result (Gives reader.now.shape.degree count (K.exchanges link.old) (K.exchanges link.new) (record { target = target; body = queries })) }
+    ensures refused { IfErr result (RoundFails (reply_size reader.now.shape target) (K.exchanges link.old) (K.exchanges link.new) (record { target = target; body = queries })) }
+    ensures cause { LinkFails (K.faults link.old) (K.faults link.new) (K.last_failed link.new) (record { target = target; limit = reply_limit reader.now.shape target }) result }
+    ensures ready { K.is_ready link.new ≡ true }
+    ensures beside { K.beside link.new ≡ K.beside link.old }
+{
+    let degree = Degree::of(reader.tested().shape().degree() as usize);
+    let limit = reply_length(reader.tested(), target).max(LEAST_LIMIT);
+    let body = match ask(link, target, queries, limit) {
+        Ok(body) => body,
+        Err(fault) => return Err(fault),
+    };
+    match check_reply(alloc, degree, count, target, body.as_slice()) {
+        Ok(()) => Ok(body),
+        Err(fault) => Err(fault),
+    }
 }

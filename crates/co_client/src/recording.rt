@@ -1,6 +1,6 @@
 //! The round of the records.
 
-ghost use Rattle.std.specs.Prelude.{◌≡◌, ◌+◌, ◌*◌, ◌<◌, ◌≤◌, true, ℕ, List, Option, Some, None, length, map, slice_index, slice_index_or, IfOk, IfErr, OnOk};
+ghost use Rattle.std.specs.Prelude.{◌≡◌, ◌+◌, ◌*◌, ◌<◌, ◌≤◌, true, ℕ, List, Option, Some, None, Ok, length, map, slice_index, slice_index_or, IfOk, IfErr, OnOk};
 ghost use Rattle.std.specs.List.{All, position};
 ghost use Rattle.co_link.specs.declared.messages.Target.TheVariants as targets;
 ghost use Rattle.co_bucket.specs.Lists.{bucket_count};
@@ -15,16 +15,17 @@ ghost use Rattle.co_rounds.specs.Asked.{encryptions_draw};
 ghost use Rattle.co_rounds.specs.Placing.{place_in_bucket};
 ghost use Rattle.co_rounds.specs.Recording as recordings;
 ghost use Rattle.co_client.specs.Rounds.{RoundFails, LinkFails, Gives, queries_request, queries_rest, record_messages};
-ghost use Rattle.co_client.specs.Placings.{places_asked, HaveBuckets};
+ghost use Rattle.co_client.specs.Placings.{places_asked, HaveBuckets, ArePlaced, shown_of};
+ghost use Rattle.co_client.specs.Gathered.{with_bins, ReadsReplies, RecordsFail, records_rest};
 ghost use Rattle.co_client.specs.Records as readings;
 ghost use Rattle.co_client.specs.Records.{checked, record_read, records_read};
 ghost use Rattle.co_client.specs.Faults.{IsReadAs};
 
-use crate::asking::ask;
 use crate::fault::SearchFault;
-use crate::querying::put_row;
-use crate::reading::{check_reply, open_part};
-use crate::scoring::LEAST_LIMIT;
+use crate::placing::places;
+use crate::querying::{ask_ciphers, put_row};
+use crate::ranking::Ranked;
+use crate::reading::open_part;
 use crate::starting::Reader;
 use co_bucket::buckets;
 use co_link::{Bytes, Link, Target};
@@ -32,8 +33,8 @@ use co_list::Listed;
 use co_noise::Shape;
 use co_pack::{Place, RECORD_BYTES, Record, RecordFault, read_record};
 use co_ring::Degree;
-use co_text::Ranked;
-use co_wire::{record_chunks, reply_length, request_length};
+use co_text::Ranked as RankedDocument;
+use co_wire::{record_chunks, request_length};
 use rand_core::Rng;
 use std::alloc::{AllocError, Global};
 
@@ -82,7 +83,7 @@ fn record_queries<R: Rng>(
 
 /// Asks each bucket for the row of a place in its list, and gives the body of the reply, which spells
 /// what each bucket answers. After an error the rest of the stream is not stated.
-pub fn gather<K: Link, R: Rng>(
+fn gather<K: Link, R: Rng>(
     alloc: Global,
     link: &mut K,
     rng: &mut R,
@@ -101,44 +102,37 @@ pub fn gather<K: Link, R: Rng>(
     ensures ready { K.is_ready link.new ≡ true }
     ensures beside { K.beside link.new ≡ K.beside link.old }
 {
-    let shape = reader.tested().shape();
-    let degree = Degree::of(shape.degree() as usize);
     let Ok(queries) = record_queries(alloc, reader, places, rng) else {
         return Err(SearchFault::OutOfMemory);
     };
-    let limit = reply_length(reader.tested(), Target::Meta).max(LEAST_LIMIT);
-    let body = match ask(link, Target::Meta, queries, limit) {
-        Ok(body) => body,
-        Err(fault) => return Err(fault),
-    };
-    let count = buckets(shape.hits()) * record_chunks(shape.degree());
-    match check_reply(alloc, degree, count, Target::Meta, body.as_slice()) {
-        Ok(()) => Ok(body),
-        Err(fault) => Err(fault),
-    }
+    let shape = reader.tested().shape();
+    let degree = shape.degree();
+    let count = buckets(shape.hits()) * record_chunks(degree);
+    ask_ciphers(alloc, link, reader, Target::Meta, queries, count)
 }
 
-/// Whether a place is inside the bins.
-fn is_within_bins(shape: &Shape, place: Place) -> bool
-    ensures { result ≡ recordings.is_within_bins shape.now place }
+/// Whether a place is inside so many bins.
+fn is_within_bins(shape: &Shape, bins: u32, place: Place) -> bool
+    ensures { result ≡ recordings.is_within_bins (with_bins shape.now bins) place }
 {
     let _ = shape.degree();
-    place.bin < shape.bins()
+    place.bin < bins
         && place.offset as u64 + place.length as u64
             <= shape.chunks() as u64 * (2 * shape.degree() as u64)
 }
 
-/// The record of a document, where it is whole, the document's own, and its place is inside the
+/// The record of a document, where it is whole, the document's own, and its place is inside so many
 /// bins.
 fn check_record(
     alloc: Global,
     shape: &Shape,
+    bins: u32,
     document: u32,
     bytes: &[u8],
 ) -> Result<Record, SearchFault>
     requires { length bytes.now ≡ RECORD_BYTES }
-    ensures read { IsReadAs result (checked shape.now document (record_of bytes.now)) }
-    ensures within { IfOk result (λ r. recordings.is_within_bins shape.now r.place ≡ true) }
+    ensures read { IsReadAs result (checked (with_bins shape.now bins) document (record_of bytes.now)) }
+    ensures within { IfOk result (λ r. recordings.is_within_bins (with_bins shape.now bins) r.place ≡ true) }
 {
     let record = match read_record(alloc, bytes) {
         Ok(record) => record,
@@ -153,7 +147,7 @@ fn check_record(
             found: record.document,
         });
     }
-    if !is_within_bins(shape, record.place) {
+    if !is_within_bins(shape, bins, record.place) {
         return Err(SearchFault::BadPlace { document });
     }
     Ok(record)
@@ -164,6 +158,7 @@ fn read_one(
     alloc: Global,
     reader: &Reader,
     body: &[u8],
+    bins: u32,
     bucket: u32,
     place: usize,
     document: u32,
@@ -172,8 +167,8 @@ fn read_one(
     requires bucket { bucket < bucket_count reader.now.shape.hits }
     requires place { place ≡ place_in_bucket reader.now.shape bucket document }
     ensures read { (cs : List Ciphertext) (all : ℕ) → SpellsCiphers reader.now.shape.degree all cs body.now
-        → IsReadAs result (record_read reader.now.shape reader.now.secret cs bucket document) }
-    ensures within { IfOk result (λ r. recordings.is_within_bins reader.now.shape r.place ≡ true) }
+        → IsReadAs result (record_read (with_bins reader.now.shape bins) reader.now.secret cs bucket document) }
+    ensures within { IfOk result (λ r. recordings.is_within_bins (with_bins reader.now.shape bins) r.place ≡ true) }
 {
     let shape = reader.tested().shape();
     let size = shape.degree();
@@ -188,6 +183,7 @@ fn read_one(
     check_record(
         alloc,
         shape,
+        bins,
         document,
         &row.as_slice()[start..start + RECORD_BYTES],
     )
@@ -217,12 +213,14 @@ fn bucket_of(placed: &[Option<u32>], rank: u32) -> usize
     placed_at(placed, rank).unwrap_or(0)
 }
 
-/// The records of hits by rank, from the replies of the buckets in which they are placed.
-pub fn read_records(
+/// The records of hits by rank, from the replies of the buckets in which they are placed. A place is
+/// to be inside so many bins.
+fn read_records(
     alloc: Global,
     reader: &Reader,
     body: &[u8],
-    hits: &[Ranked],
+    bins: u32,
+    hits: &[RankedDocument],
     placed: &[Option<u32>],
     places: &[usize],
 ) -> Result<Listed<Record>, SearchFault>
@@ -231,8 +229,8 @@ pub fn read_records(
     requires few { length hits.now ≤ 64 }
     requires places { places.now ≡ places_asked reader.now.shape hits.now placed.now }
     ensures read { (cs : List Ciphertext) (all : ℕ) → SpellsCiphers reader.now.shape.degree all cs body.now
-        → IsReadAs result (records_read reader.now.shape reader.now.secret cs placed.now 0 hits.now) }
-    ensures within { IfOk result (λ records. All (λ r. recordings.is_within_bins reader.now.shape r.place ≡ true) records) }
+        → IsReadAs result (records_read (with_bins reader.now.shape bins) reader.now.secret cs placed.now 0 hits.now) }
+    ensures within { IfOk result (λ records. All (λ r. recordings.is_within_bins (with_bins reader.now.shape bins) r.place ≡ true) records) }
     ensures long { IfOk result (λ records. length records ≡ length hits.now) }
 {
     let _ = reader.tested().shape().degree();
@@ -243,7 +241,7 @@ pub fn read_records(
         let bucket = bucket_of(placed, rank as u32);
         let place = places[bucket];
         let document = hits[rank].document;
-        let record = match read_one(alloc, reader, body, bucket as u32, place, document) {
+        let record = match read_one(alloc, reader, body, bins, bucket as u32, place, document) {
             Ok(record) => record,
             Err(fault) => return Err(fault),
         };
@@ -252,4 +250,42 @@ pub fn read_records(
         };
     }
     Ok(records)
+}
+
+/// Asks for the records of ranked hits, and gives them by rank; none where the hits can't be placed.
+/// A place is to be inside so many bins. After an error the rest of the stream is not stated.
+pub fn records<K: Link, R: Rng>(
+    alloc: Global,
+    reader: &Reader,
+    link: &mut K,
+    rng: &mut R,
+    ranked: &Ranked,
+    bins: u32,
+) -> Result<Listed<Record>, SearchFault>
+    requires ready { K.is_ready link.old ≡ true }
+    requires rows { reader.now.shape.rows ≡ rows_specs.rows_of reader.now.shape.degree reader.now.shape.documents reader.now.shape.hits reader.now.shape.salt }
+    requires few { length ranked.now.hits ≤ reader.now.shape.hits }
+    requires placed { ArePlaced reader.now.shape ranked.now.hits ranked.now.buckets ranked.now.refused }
+    ensures read { IfOk result (λ records. ReadsReplies reader.now ranked.now bins (K.exchanges link.old) (K.exchanges link.new) (R.stream rng.old) (Ok records)) }
+    ensures long { IfOk result (λ records. length records ≡ length (shown_of ranked.now.refused ranked.now.hits)) }
+    ensures within { IfOk result (λ records. All (λ r. recordings.is_within_bins (with_bins reader.now.shape bins) r.place ≡ true) records) }
+    ensures rest { OnOk result (R.stream rng.new ≡ records_rest reader.now ranked.now (R.stream rng.old)) }
+    ensures refused { IfErr result (RecordsFail reader.now ranked.now bins (K.exchanges link.old) (K.exchanges link.new) (R.stream rng.old)) }
+    ensures cause { LinkFails (K.faults link.old) (K.faults link.new) (K.last_failed link.new) (record { target = targets.Meta; limit = reply_limit reader.now.shape targets.Meta }) result }
+    ensures ready { K.is_ready link.new ≡ true }
+    ensures beside { K.beside link.new ≡ K.beside link.old }
+{
+    let shape = reader.tested().shape();
+    let _ = shape.degree();
+    let hits = ranked.shown();
+    let placed = ranked.buckets.as_slice();
+    let Ok(spots) = places(alloc, shape, hits, placed) else {
+        return Err(SearchFault::OutOfMemory);
+    };
+    let asked = spots.as_slice();
+    let rows = match gather(alloc, link, rng, reader, asked) {
+        Ok(rows) => rows,
+        Err(fault) => return Err(fault),
+    };
+    read_records(alloc, reader, rows.as_slice(), bins, hits, placed, asked)
 }

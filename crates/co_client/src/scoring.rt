@@ -19,10 +19,9 @@ ghost use Rattle.co_rounds.specs.Asked.{AreKeywordMessages, encryptions_draw};
 ghost use Rattle.co_rounds.specs.Scoring.{scores_read};
 ghost use Rattle.co_client.specs.Rounds.{RoundFails, LinkFails, Ranks, queries_request, queries_rest};
 
-use crate::asking::ask;
 use crate::fault::SearchFault;
-use crate::querying::put_query;
-use crate::reading::{check_reply, cipher_at};
+use crate::querying::{ask_ciphers, put_query};
+use crate::reading::cipher_at;
 use crate::starting::Reader;
 use co_bfv::decrypt;
 use co_link::{Bytes, Link, Target};
@@ -30,12 +29,9 @@ use co_list::Listed;
 use co_ring::{Degree, Modulus, Poly, Spectrum};
 use co_slots::SlotTable;
 use co_text::{Ranked, ranking};
-use co_wire::{reply_length, request_length};
+use co_wire::request_length;
 use rand_core::Rng;
 use std::alloc::{AllocError, Global};
-
-/// The least that a reply may have, so that the text of a refusal is read.
-pub(crate) const LEAST_LIMIT: u64 = 256;
 
 /// Whether a term is a keyword.
 fn is_keyword(keywords: &[u32], term: usize) -> bool
@@ -206,7 +202,7 @@ fn read_scores(alloc: Global, reader: &Reader, body: &[u8]) -> Result<Vec<u32>, 
 
 /// Asks for the scores by keywords, which are numbers of terms, and ranks the documents by them.
 /// After an error the rest of the stream is not stated.
-pub fn rank<K: Link, R: Rng>(
+pub fn score_hits<K: Link, R: Rng>(
     alloc: Global,
     link: &mut K,
     rng: &mut R,
@@ -225,21 +221,16 @@ pub fn rank<K: Link, R: Rng>(
     ensures ready { K.is_ready link.new ≡ true }
     ensures beside { K.beside link.new ≡ K.beside link.old }
 {
-    let shape = reader.tested().shape();
-    let degree = Degree::of(shape.degree() as usize);
     let Ok(queries) = score_queries(alloc, reader, keywords, rng) else {
         return Err(SearchFault::OutOfMemory);
     };
-    let limit = reply_length(reader.tested(), Target::Score).max(LEAST_LIMIT);
-    let body = match ask(link, Target::Score, queries, limit) {
+    let shape = reader.tested().shape();
+    let _ = shape.degree();
+    let blocks = shape.document_blocks();
+    let body = match ask_ciphers(alloc, link, reader, Target::Score, queries, blocks) {
         Ok(body) => body,
         Err(fault) => return Err(fault),
     };
-    let blocks = shape.document_blocks();
-    match check_reply(alloc, degree, blocks, Target::Score, body.as_slice()) {
-        Ok(()) => {}
-        Err(fault) => return Err(fault),
-    }
     let Ok(scores) = read_scores(alloc, reader, body.as_slice()) else {
         return Err(SearchFault::OutOfMemory);
     };

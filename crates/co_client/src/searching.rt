@@ -23,10 +23,10 @@ ghost use Rattle.co_client.specs.Records.{hit_shown, hits_shown};
 
 use crate::fault::SearchFault;
 use crate::fetching::{bin_of, fetch, read_document};
-use crate::placing::{Placing, place_hits, places};
+use crate::placing::Witness;
 use crate::publishing::consult;
-use crate::recording::{gather, read_records};
-use crate::scoring::rank;
+use crate::ranking::rank;
+use crate::recording::records;
 use crate::starting::start;
 use co_link::Link;
 use co_pack::Record;
@@ -71,14 +71,12 @@ fn with_titles(alloc: Global, ranked: &[Ranked], records: &[Record]) -> Result<H
 }
 
 /// The answer where the hits are placed, else that they can't be.
-fn conclude(placing: Placing, found: Found) -> Result<Found, SearchFault>
-    ensures { result ≡ concluded placing found }
+fn conclude(refused: Option<Witness>, found: Found) -> Result<Found, SearchFault>
+    ensures { result ≡ concluded refused found }
 {
-    match placing {
-        Placing::Placed(_) => Ok(found),
-        Placing::Unplaced { documents, buckets } => {
-            Err(SearchFault::NoPlacement { documents, buckets })
-        }
+    match refused {
+        None => Ok(found),
+        Some((documents, buckets)) => Err(SearchFault::NoPlacement { documents, buckets }),
     }
 }
 
@@ -101,7 +99,7 @@ fn conduct<K: Link, R: Rng>(
         Ok(keywords) => keywords,
         Err(fault) => return Err(fault),
     };
-    let published = match consult(alloc, link, &keywords) {
+    let published = match consult(alloc, link) {
         Ok(published) => published,
         Err(fault) => return Err(fault),
     };
@@ -109,32 +107,16 @@ fn conduct<K: Link, R: Rng>(
         Ok(reader) => reader,
         Err(fault) => return Err(fault),
     };
-    let numbers = published.keywords.as_slice();
-    let ranked = match rank(alloc, link, rng, &reader, numbers) {
+    let ranked = match rank(alloc, &reader, link, rng, &published.terms, &keywords) {
         Ok(ranked) => ranked,
         Err(fault) => return Err(fault),
     };
-    let shape = reader.tested().shape();
-    let hits = ranked.as_slice();
-    let Ok(placing) = place_hits(alloc, shape, hits) else {
-        return Err(SearchFault::OutOfMemory);
-    };
-    let shown = placing.shown(hits);
-    let placed = placing.by_bucket();
-    let Ok(spots) = places(alloc, shape, shown, placed) else {
-        return Err(SearchFault::OutOfMemory);
-    };
-    let asked = spots.as_slice();
-    let rows = match gather(alloc, link, rng, &reader, asked) {
-        Ok(rows) => rows,
+    let bins = reader.tested().shape().bins();
+    let listed = match records(alloc, &reader, link, rng, &ranked, bins) {
+        Ok(listed) => listed,
         Err(fault) => return Err(fault),
     };
-    let body = rows.as_slice();
-    let records = match read_records(alloc, &reader, body, shown, placed, asked) {
-        Ok(records) => records,
-        Err(fault) => return Err(fault),
-    };
-    let read = records.as_slice();
+    let read = listed.as_slice();
     let bin = bin_of(read, pick);
     let chunks = match fetch(alloc, link, rng, &reader, bin) {
         Ok(chunks) => chunks,
@@ -145,14 +127,15 @@ fn conduct<K: Link, R: Rng>(
         Ok(document) => document,
         Err(fault) => return Err(fault),
     };
+    let shown = ranked.shown();
     let Ok(titled) = with_titles(alloc, shown, read) else {
         return Err(SearchFault::OutOfMemory);
     };
     conclude(
-        placing,
+        ranked.refused,
         Found {
             hits: titled,
-            unknown: published.unknown,
+            unknown: ranked.unknown,
             document,
         },
     )

@@ -7,7 +7,7 @@ ghost use Rattle.co_rounds.specs.Answers.{reply_with};
 ghost use Rattle.co_wire.specs.Lengths.{reply_limit};
 ghost use Rattle.co_client.specs.Rounds.{Comes, RoundFails, LinkFails, keys_asked, keys_request};
 
-use crate::asking::ask;
+use crate::asking::{LEAST_LIMIT, ask};
 use crate::fault::SearchFault;
 use co_bfv::{Secret, sample_secret};
 use co_link::{Link, Target};
@@ -18,9 +18,6 @@ use co_wire::write_keys;
 use rand_core::Rng;
 use std::alloc::Global;
 use std::marker::Model;
-
-/// The most bytes of a reply to keys: room for the text of a refusal.
-const LIMIT: u64 = 256;
 
 /// A reader of a library, whose server has the reader's keys.
 #[derive(Drop)]
@@ -85,7 +82,7 @@ pub fn start<K: Link, R: Rng>(
     let Ok(body) = write_keys(alloc, &keys) else {
         return Err(SearchFault::OutOfMemory);
     };
-    match ask(link, Target::Keys, body, LIMIT) {
+    match ask(link, Target::Keys, body, LEAST_LIMIT) {
         Err(fault) => Err(fault),
         Ok(reply) => {
             if !reply.is_empty() {

@@ -4,8 +4,12 @@
 ghost use Rattle.std.specs.Prelude.{◌≤◌};
 
 use super::*;
+use crate::publishing::consult;
 use co_link::{Bytes, FailNth, FailingCalls, Reply, ScriptLink, Target};
+use co_list::Listed;
 use co_math::parameters::{FIRST_MODULUS, PLAIN_MODULUS, SECOND_MODULUS};
+use co_pack::Record;
+use co_text::query_terms;
 use rand_core::SeedableRng;
 use rand_xoshiro::SplitMix64;
 use std::alloc::{AllocError, Global};
@@ -327,5 +331,49 @@ fn refuses_words_and_links(rt: HostRuntime) -> Result<(), Fail> {
             })
         )
     );
+    Ok(())
+}
+
+/// What a reader of the small library ranks for "sea wind", and the records that are read where a
+/// place is to be inside so many bins.
+fn records_within(
+    alloc: Global,
+    bins: u32,
+) -> Result<Option<(Ranked, Result<Listed<Record>, SearchFault>)>, AllocError> {
+    let mut link = link(alloc, bodies(alloc, 3, RECORD, b"sea tide")?)?;
+    let mut rng = SplitMix64::seed_from_u64(7);
+    let Ok(published) = consult(alloc, &mut link) else {
+        return Ok(None);
+    };
+    let Ok(reader) = start(alloc, &mut link, &mut rng, &published.tested) else {
+        return Ok(None);
+    };
+    let Ok(query) = query_terms(alloc, "sea wind") else {
+        return Ok(None);
+    };
+    let terms = &published.terms;
+    let Ok(ranked) = rank(alloc, &reader, &mut link, &mut rng, terms, &query) else {
+        return Ok(None);
+    };
+    let read = records(alloc, &reader, &mut link, &mut rng, &ranked, bins);
+    Ok(Some((ranked, read)))
+}
+
+#[test]
+fn ranks_and_reads_records(rt: HostRuntime) -> Result<(), Fail> {
+    let alloc = rt.alloc();
+    let (ranked, read) = records_within(alloc, 1)?.expect(&rt, "a ranking");
+    let hits = ranked.hits.as_slice();
+    assert_eq!(rt; hits.len(), 1);
+    assert_eq!(rt; (hits[0].document, hits[0].score), (0, 3));
+    assert_eq!(rt; ranked.unknown.len(), 1);
+    assert_eq!(rt; ranked.buckets.len(), 3);
+    assert!(rt; ranked.refused.is_none());
+    let read = read?;
+    assert_eq!(rt; read.len(), 1);
+    assert_eq!(rt; read.as_slice()[0].title.as_str(), "Reef");
+    let (_, read) = records_within(alloc, 0)?.expect(&rt, "a ranking");
+    let fault = read.err();
+    assert!(rt; matches!(fault, Some(SearchFault::BadPlace { document: 0 })));
     Ok(())
 }

@@ -3,58 +3,19 @@
 ghost use Rattle.std.specs.Prelude.{◌≡◌, ◌≤◌, IfSome};
 ghost use Rattle.co_link.specs.Causes.{Rose};
 ghost use Rattle.co_serving.specs.declared.ended.Ended.TheVariants.{ReadFault, WriteFault};
-ghost use Rattle.co_connections.specs.Serving.{ServesLibrary, Serving, fresh};
+ghost use Rattle.co_rounds.specs.Answers.{IsAnswer, Holds};
+ghost use Rattle.co_server.specs.Kept.{AreKept};
+ghost use Rattle.co_connections.specs.Serving.{ServesLibrary};
 
 use crate::session_service::SessionService;
 use co_board::Gate;
-use co_http::Conn;
-use co_link::Duplex;
-use co_server::Loaded;
-use co_serving::{Ended, MOST_RESPONSES, Served, closed_by};
+use co_link::{Duplex, Request};
+use co_rounds::Answer;
+use co_server::{Loaded, Session};
+use co_serving::{Served, serve_by};
 use co_switch::Steps;
 use std::alloc::Global;
 use std::thread::Threads;
-
-// Serves a connection by a service. It ends with the input, with the first response that closes,
-// with the last response that one connection has, or where taking or putting fails.
-fn serve_by<'a, C: Duplex, R: Threads + Sync, G: Gate, L>(
-    alloc: Global,
-    service: &mut SessionService<'a, R, G, L>,
-    line: &mut C,
-) -> Served
-    ensures serves { IfSome (C.left line.old) (λ input. IfSome (C.put_so_far line.old) (λ put.
-        Serving service.old service.new input (C.left line.new) put (C.put_so_far line.new) result.requests result.ended)) }
-    ensures requests { result.requests ≤ 1000 }
-    ensures read_fault { result.ended ≡ ReadFault → Rose (C.Source.faults line.old) (C.Source.faults line.new) }
-    ensures write_fault { result.ended ≡ WriteFault → Rose (C.Sink.faults line.old) (C.Sink.faults line.new) }
-    ensures beside { C.Duplex.beside line.new ≡ C.Duplex.beside line.old }
-    ensures takes_later { C.Source.faults line.old ≤ C.Source.faults line.new }
-    ensures puts_later { C.Sink.faults line.old ≤ C.Sink.faults line.new }
-{
-    let Ok(mut conn) = Conn::new(alloc) else {
-        return Served {
-            requests: 0,
-            ended: Ended::OutOfMemory,
-        };
-    };
-    let mut requests = 0;
-    'serving: while requests < MOST_RESPONSES {
-        match service.serve_next(&mut conn, line, requests) {
-            Ok(None) => requests += 1,
-            Ok(Some(status)) => {
-                return Served {
-                    requests: requests + 1,
-                    ended: closed_by(requests + 1, status),
-                };
-            }
-            Err(ended) => return Served { requests, ended },
-        }
-    }
-    Served {
-        requests,
-        ended: Ended::Spent,
-    }
-}
 
 /// Serves one connection: each message of its input is answered in order by one session, whatever
 /// pieces the input comes in. The gate is told of the units of each score and retrieval; the steps
@@ -78,8 +39,13 @@ pub fn serve_connection<C: Duplex, R: Threads + Sync, G: Gate, L>(
     ensures takes_later { C.Source.faults line.old ≤ C.Source.faults line.new }
     ensures puts_later { C.Sink.faults line.old ≤ C.Sink.faults line.new }
 {
-    let mut service = SessionService::new(rt, alloc, loaded, gate, workers, steps.part());
-    let served = serve_by(alloc, &mut service, line);
-    steps.take_in(service.into_steps());
-    served
+    let step = |session: &mut Session, loaded: &Loaded, request: &Request, workers: u32| -> Answer
+        requires workers { (1 ≤ workers) × (workers ≤ 64) }
+        requires kept { AreKept loaded.now.shape session.old }
+        ensures answer { IsAnswer loaded.now session.old request.now result }
+        ensures keys { Holds loaded.now.shape session.old request.now result session.new }
+        ensures kept { AreKept loaded.now.shape session.new }
+    { session.step(rt, alloc, loaded, request, workers, gate, steps) };
+    let mut service = SessionService::new(alloc, loaded, workers, step);
+    serve_by(alloc, &mut service, line)
 }

@@ -2,7 +2,7 @@
 //!
 //! Model: a conversation (co_serving) whose service is a session over a library that is loaded
 //! (co_server). The session begins with no keys, and its keys go with the connection.
-//! [`serve_connection`] has a loop of its own: a step of the session may start threads under any gate.
+//! [`serve_connection`] is one call of co_serving's loop.
 //!
 //! Not here: what a conversation is (co_serving), what a session answers (co_server), which
 //! connections come.

@@ -10,7 +10,9 @@ use std::marker::Model;
 /// A title, as its type keeps it, and a text.
 #[derive(Debug, Drop)]
 pub struct Document {
+    /// The title.
     pub title: Title,
+    /// The bytes of the text, which are UTF-8.
     pub text: Bytes,
 }
 

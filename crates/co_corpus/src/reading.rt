@@ -59,7 +59,8 @@ fn read_title(alloc: Global, value: &Value) -> Result<Option<Title>, AllocError>
 
 // The text of an object, if it has one, taken out of it with no copy.
 fn take_text(value: &mut Value) -> Option<String>
-    ensures { option_map string_bytes result ≡ option_and_then as_str (get (codes "text") (view value.old)) }
+    ensures { option_map string_bytes result ≡ option_and_then as_str
+        (get (codes "text") (view value.old)) }
 {
     match value.get_mut("text") {
         None => None,

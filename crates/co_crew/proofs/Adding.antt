@@ -5,7 +5,6 @@ use Rattle.std.proofs.Math.Seq.{take-append_seam}
 use Rattle.std.proofs.lemmas.List.{length-set, get_or-set_other, get_or-set_same}
 use Rattle.co_bfv.specs.Ciphertexts.{Ciphertext, ciphertext_degree, ciphertext_sum}
 use Rattle.co_bfv.specs.Totals.{no_ciphertext, ciphertext_at}
-use Rattle.co_crew.specs.Sums.{AreAdded}
 
 -- the first sums have theirs, the others are as they were
 pub record AreReached (done : ℕ) (before others now : List Ciphertext) : Type 0 where
@@ -27,9 +26,6 @@ more_reached done before others now x y after h l at from is = record {
       (cases_eq a done);
   rest = λ a u v. get_or-set_other now done a after no_ciphertext (λ e. absurd (omega arith)) ∙ h.rest a (omega arith) v;
 }
-
-pub all_reached : (done : ℕ) (before others now : List Ciphertext) → AreReached done before others now → length before ≤ done → AreAdded before others now
-all_reached done before others now h end = record { count = h.count; each = λ a u. h.first a (omega arith) u }
 
 -- a vector whose slice was written
 pub whole_kept : {X : Type 0} (m : ℕ) (xs ys : List X) → m ≡ length xs → length ys ≡ length xs → take m (ys ++ drop (length ys) xs) ≡ ys

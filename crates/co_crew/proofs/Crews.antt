@@ -1,5 +1,5 @@
 -- What workers have together, worker by worker.
-use Rattle.std.proofs.Common.{◌≡◌, ℕ, zero, suc, ◌+◌, Bool, true, false, List, [], ◌∷◌, ◌++◌, map, All, length, take, drop, sym, subst, refl, ap, ◌∙◌, length-append, length-take, length-drop, arith, append_assoc}
+use Rattle.std.proofs.Common.{◌≡◌, ℕ, zero, suc, ◌+◌, Bool, true, false, List, [], ◌∷◌, ◌++◌, map, All, sym, subst, refl, ap, ◌∙◌, arith, append_assoc}
 use Rattle.std.proofs.lemmas.List.{append-nil}
 use Rattle.std.proofs.lemmas.List.Elements.{All-append}
 use Rattle.std.specs.Prelude.{◌&&◌, flat_map, nat_eq, if◌then◌else◌}
@@ -30,9 +30,6 @@ sum_over-flat g f (p ∷ ps) = sum_over-append g (f p) (flat_map f ps) ∙ ap (�
 -- a sum over the units in any order
 pub each-total : (f : ℕ → ℕ) (units : ℕ) (us : List ℕ) → IsEach units us → sum_over f us ≡ sum_below units f
 each-total f units us each = let e = once-sum_below f units (us ∷ []) (record { each = λ x. (let o = each.once x in omega arith) }) in omega arith
-
-pub whole_length : {X : Type 0} (n : ℕ) (xs ys : List X) → length xs ≡ length ys → n ≡ length ys → length (take n (xs ++ drop (length xs) ys)) ≡ length ys
-whole_length n xs ys same is = omega (arith, length-take n (xs ++ drop (length xs) ys), length-append xs (drop (length xs) ys), length-drop (length xs) ys)
 
 module _ {S : Type 0} (is_sum : List ℕ → S → Type 0) (units : ℕ) (cost : ℕ → ℕ) (start : ℕ) where
   pub tally_none : (s : S) → is_sum [] s → IsTally is_sum units cost start [] s start true

@@ -20,4 +20,5 @@ units_total n f us = record {
 -- to each ciphertext of a list that of another list was added
 pub record AreAdded (before others after : List Ciphertext) : Type 0 where
   pub count : length after ≡ length before
-  pub each : (a : ℕ) → a < length before → ciphertext_at after a ≡ ciphertext_sum (ciphertext_at before a) (ciphertext_at others a)
+  pub each : (a : ℕ) → a < length before → ciphertext_at after a
+      ≡ ciphertext_sum (ciphertext_at before a) (ciphertext_at others a)

@@ -30,9 +30,12 @@ fn run_worker<S, L, W: Work<S, L>, G: Gate>(
 )
     requires units { board.now.units ≡ W.units work.now }
     requires pass { (worker.old.pass.board ≡ board.now) × (worker.old.pass.drawn ≡ []) }
-    requires begins { W.is_sum work.now [] worker.old.sum × (worker.old.steps ≡ 0) × (worker.old.done ≡ false) }
-    ensures pass { (worker.new.pass.board ≡ worker.old.pass.board) × (worker.new.pass.number ≡ worker.old.pass.number) }
-    ensures run { IsRun (W.is_sum work.now) board.now.units (W.cost work.now) worker.new.pass.drawn worker.new.sum worker.new.steps worker.new.done }
+    requires begins { W.is_sum work.now [] worker.old.sum × (worker.old.steps ≡ 0)
+        × (worker.old.done ≡ false) }
+    ensures pass { (worker.new.pass.board ≡ worker.old.pass.board)
+        × (worker.new.pass.number ≡ worker.old.pass.number) }
+    ensures run { IsRun (W.is_sum work.now) board.now.units (W.cost work.now) worker.new.pass.drawn
+        worker.new.sum worker.new.steps worker.new.done }
 {
     let Worker {
         pass,
@@ -58,7 +61,8 @@ fn crew_of<S: Drop, L, W: Work<S, L>>(
     work: &W,
 ) -> Result<Vec<Worker<S, L>>, AllocError>
     ensures passes { IfOk result (λ crew. map (λ w. w.pass) crew.items ≡ passes.items) }
-    ensures fresh { IfOk result (λ crew. All (λ w. W.is_sum work.now [] w.sum × (w.steps ≡ 0) × (w.done ≡ false)) crew.items) }
+    ensures fresh { IfOk result (λ crew. All (λ w. W.is_sum work.now [] w.sum × (w.steps ≡ 0)
+        × (w.done ≡ false)) crew.items) }
 {
     let mut crew = Vec::new(alloc);
     for pass in passes {
@@ -84,7 +88,8 @@ fn merge_done<S: Drop, L, W: Work<S, L>>(
     requires begun { done ≡ true → IsBegun (W.is_sum work.now) sum.old }
     requires own_begun { all ≡ true → IsBegun (W.is_sum work.now) own }
     ensures done { result ≡ (done && all) }
-    ensures sum { done ≡ true → all ≡ true → (us vs : List ℕ) → W.is_sum work.now us sum.old → W.is_sum work.now vs own → W.is_sum work.now (us ++ vs) sum.new }
+    ensures sum { done ≡ true → all ≡ true → (us vs : List ℕ) → W.is_sum work.now us sum.old
+        → W.is_sum work.now vs own → W.is_sum work.now (us ++ vs) sum.new }
 {
     if done {
         if all {
@@ -108,9 +113,11 @@ fn gather<S: Drop, L, W: Work<S, L>>(
     requires none { W.is_sum work.now [] sum }
     requires room { (passes.items ≡ []) × (board.seats ≤ vec_capacity passes) }
     requires board { All (λ w. w.pass.board ≡ board) crew.items }
-    requires run { All (λ w. IsRun (W.is_sum work.now) board.units (W.cost work.now) w.pass.drawn w.sum w.steps w.done) crew.items }
+    requires run { All (λ w. IsRun (W.is_sum work.now) board.units (W.cost work.now) w.pass.drawn
+        w.sum w.steps w.done) crew.items }
     ensures sum { IfOk result (IsWhole (W.is_sum work.now) board.units) }
-    ensures steps { OnOk result (steps.new ≡ raised steps.old (sum_below board.units (W.cost work.now))) }
+    ensures steps { OnOk result (steps.new ≡ raised steps.old
+        (sum_below board.units (W.cost work.now))) }
     ensures rise { HasRisen steps.old (sum_below board.units (W.cost work.now)) steps.new }
 {
     let mut done = true;
@@ -141,9 +148,11 @@ fn run_all<R: Threads + Sync, S: Send, L, W: Work<S, L>, G: Gate>(
 )
     requires some { 0 < length crew.old }
     requires units { board.now.units ≡ W.units work.now }
-    requires ready { All (λ w. (w.pass.board ≡ board.now) × (w.pass.drawn ≡ []) × W.is_sum work.now [] w.sum × (w.steps ≡ 0) × (w.done ≡ false)) crew.old }
+    requires ready { All (λ w. (w.pass.board ≡ board.now) × (w.pass.drawn ≡ [])
+        × W.is_sum work.now [] w.sum × (w.steps ≡ 0) × (w.done ≡ false)) crew.old }
     ensures board { All (λ w. w.pass.board ≡ board.now) crew.new }
-    ensures run { All (λ w. IsRun (W.is_sum work.now) board.now.units (W.cost work.now) w.pass.drawn w.sum w.steps w.done) crew.new }
+    ensures run { All (λ w. IsRun (W.is_sum work.now) board.now.units (W.cost work.now) w.pass.drawn
+        w.sum w.steps w.done) crew.new }
 {
     let threads = crew.len();
     thread::for_each_mut(
@@ -151,7 +160,9 @@ fn run_all<R: Threads + Sync, S: Send, L, W: Work<S, L>, G: Gate>(
         crew,
         threads,
         &|_, worker: &mut Worker<S, L>|
-            requires { (board.now.units ≡ W.units work.now) × (worker.now.pass.board ≡ board.now) × (worker.now.pass.drawn ≡ []) × W.is_sum work.now [] worker.now.sum × (worker.now.steps ≡ 0) × (worker.now.done ≡ false) }
+            requires { (board.now.units ≡ W.units work.now) × (worker.now.pass.board ≡ board.now)
+                × (worker.now.pass.drawn ≡ []) × W.is_sum work.now [] worker.now.sum
+                × (worker.now.steps ≡ 0) × (worker.now.done ≡ false) }
         { run_worker(board, gate, work, worker) },
     );
 }

@@ -10,7 +10,9 @@ use co_bfv::Cipher;
 /// Adds to each ciphertext the one at its place among others. It takes no memory.
 pub fn add_each(sums: &mut [Cipher], others: &[Cipher])
     requires count { length others.now ≡ length sums.old }
-    requires degrees { (a : ℕ) → a < length sums.old → ciphertext_degree (ciphertext_at others.now a) ≡ ciphertext_degree (ciphertext_at sums.old a) }
+    requires degrees { (a : ℕ) → a < length sums.old
+        → ciphertext_degree (ciphertext_at others.now a)
+        ≡ ciphertext_degree (ciphertext_at sums.old a) }
     ensures { AreAdded sums.old others.now sums.new }
 {
     for a in 0..sums.len() {

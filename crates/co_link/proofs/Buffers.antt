@@ -1,5 +1,5 @@
 -- The read buffer: what a take adds to what is held.
-use Rattle.std.proofs.Common.{◌≡◌, ℕ, ◌+◌, ◌≤◌, List, [], ◌++◌, length, take, drop, Option, Some, None, refl, sym, ap, ◌∙◌, arith, append_assoc}
+use Rattle.std.proofs.Common.{◌≡◌, ℕ, ◌+◌, ◌≤◌, List, ◌++◌, length, take, drop, Option, Some, None, refl, sym, ap, ◌∙◌, arith, append_assoc}
 use Rattle.std.specs.Prelude.{option_map, IfSome}
 use Rattle.std.specs.List.{between}
 use Rattle.std.proofs.lemmas.List.{drop-append-le, take-append-drop, length-take-le, drop-take, drop-drop}
@@ -67,8 +67,3 @@ taken_more old new e n was now below took =
     ap (λ held. behind held now) (sym (between_is new 0 (e + n)))
     ∙ unread_filled old new 0 e n was now (omega arith) below took
     ∙ ap (λ held. behind held was) (between_is old 0 e)
-
--- nothing in front of what a source has left
-pub behind_none : (left : Option (List ℕ)) → behind [] left ≡ left
-behind_none None = refl
-behind_none (Some more) = refl

@@ -21,6 +21,7 @@ abbrev pub after_call : Calls → Calls
 after_call calls = record { failing = calls.failing; next = one_more calls.next }
 
 -- a call fails exactly where it is to fail, but for want of memory
-pub record FailsExactly {T E : Type 0} (failed memory : E) (fails : Bool) (result : Result T E) : Type 0 where
+pub record FailsExactly {T E : Type 0} (failed memory : E) (fails : Bool) (result : Result T E)
+    : Type 0 where
   pub only : result ≡ Err failed → fails ≡ true
   pub there : fails ≡ true → (result ≡ Err failed) ⊎ (result ≡ Err memory)

@@ -16,9 +16,11 @@ source_piece s = s.piece
 abbrev pub source_calls : MemorySource → Calls
 source_calls s = s.calls
 
--- a take that is to fail takes nothing; any other takes what is left, up to the piece and to the room in into
+-- a take that is to fail takes nothing; any other takes what is left, up to the piece and to the
+-- room in into
 pub record TakesPiece (old new : MemorySource) (room : ℕ) (result : Result ℕ Failed) : Type 0 where
   pub piece : source_piece new ≡ source_piece old
   pub calls : source_calls new ≡ after_call (source_calls old)
   pub ok : IsOk result ↔ (is_to_fail (source_calls old) ≡ false)
-  pub count : IfOk result (λ count. count ≡ min (length (source_left old)) (min room (source_piece old)))
+  pub count : IfOk result (λ count. count ≡ min (length (source_left old))
+      (min room (source_piece old)))

@@ -24,9 +24,12 @@ abbrev pub is_none_left : List Reply → Bool
 is_none_left [] = true
 is_none_left (r ∷ rs) = false
 
--- an exchange gives the first reply that is left; it fails exactly where it is to fail or none is left; want of memory is
--- free and takes no reply
+-- an exchange gives the first reply that is left; it fails exactly where it is to fail or none is
+-- left; want of memory is free and takes no reply
 abbrev pub PlaysNext : ScriptLink → ScriptLink → Result Reply LinkFault → Type 0
-PlaysNext old new (Ok reply) = (script_left old ≡ reply ∷ script_left new) × (is_to_fail (script_calls old) ≡ false)
-PlaysNext old new (Err Failed) = (script_left new ≡ script_left old) × ((is_to_fail (script_calls old) || is_none_left (script_left old)) ≡ true)
-PlaysNext old new (Err OutOfMemory) = (script_left new ≡ script_left old) × ((is_to_fail (script_calls old) || is_none_left (script_left old)) ≡ false)
+PlaysNext old new (Ok reply) =
+    (script_left old ≡ reply ∷ script_left new) × (is_to_fail (script_calls old) ≡ false)
+PlaysNext old new (Err Failed) = (script_left new ≡ script_left old)
+    × ((is_to_fail (script_calls old) || is_none_left (script_left old)) ≡ true)
+PlaysNext old new (Err OutOfMemory) = (script_left new ≡ script_left old)
+    × ((is_to_fail (script_calls old) || is_none_left (script_left old)) ≡ false)

@@ -66,15 +66,20 @@ impl<K: Link + Drop> Link for FailNth<K> {
 
     fn exchange(&mut self, request: Request, limit: u64) -> Result<Reply, LinkFault>
         requires { K.is_ready self.old.inner ≡ true }
-        ensures told { Records (K.exchanges self.old.inner) (K.exchanges self.new.inner) request result }
-        ensures cause { LinkCause (self.old.failures.count + K.faults self.old.inner) (self.new.failures.count + K.faults self.new.inner)
-            (last_or (K.last_failed self.old.inner) (last_call self.old.failures)) (last_or (K.last_failed self.new.inner) (last_call self.new.failures))
+        ensures told { Records (K.exchanges self.old.inner)
+            (K.exchanges self.new.inner) request result }
+        ensures cause { LinkCause (self.old.failures.count + K.faults self.old.inner)
+            (self.new.failures.count + K.faults self.new.inner)
+            (last_or (K.last_failed self.old.inner) (last_call self.old.failures))
+            (last_or (K.last_failed self.new.inner) (last_call self.new.failures))
             (record { target = request.target; limit = limit }) result }
         ensures ready { K.is_ready self.new.inner ≡ true }
         ensures beside { dialling_of self.new.dials ≡ dialling_of self.old.dials }
         ensures calls { self.new.calls ≡ after_call self.old.calls }
-        ensures fails { is_to_fail self.old.calls ≡ true → (result ≡ Err Failed) × (self.new.inner ≡ self.old.inner) }
-        ensures passes { is_to_fail self.old.calls ≡ false → result ≡ Err Failed → Rose (K.faults self.old.inner) (K.faults self.new.inner) }
+        ensures fails { is_to_fail self.old.calls ≡ true → (result ≡ Err Failed)
+            × (self.new.inner ≡ self.old.inner) }
+        ensures passes { is_to_fail self.old.calls ≡ false → result ≡ Err Failed
+            → Rose (K.faults self.old.inner) (K.faults self.new.inner) }
     {
         let target = request.target;
         if self.calls.next_fails() {
@@ -105,13 +110,18 @@ impl<K: Dial + Drop> Dial for FailNth<K> {
     fn dial(&mut self, host: &str, port: u16) -> Result<(), LinkFault>
         ensures ready { OnOk result (K.is_ready self.new.inner ≡ true) }
         ensures told { Clears (K.exchanges self.old.inner) (K.exchanges self.new.inner) result }
-        ensures cause { DialCause (self.old.failures.count + K.faults self.old.inner) (self.new.failures.count + K.faults self.new.inner)
-            (last_or (K.last_failed self.old.inner) (last_call self.old.failures)) (last_or (K.last_failed self.new.inner) (last_call self.new.failures)) result }
-        ensures dialled { DialTells self.old.dials.count self.new.dials.count (dialled_last self.old.dials) (dialled_last self.new.dials)
+        ensures cause { DialCause (self.old.failures.count + K.faults self.old.inner)
+            (self.new.failures.count + K.faults self.new.inner)
+            (last_or (K.last_failed self.old.inner) (last_call self.old.failures))
+            (last_or (K.last_failed self.new.inner) (last_call self.new.failures)) result }
+        ensures dialled { DialTells self.old.dials.count self.new.dials.count
+            (dialled_last self.old.dials) (dialled_last self.new.dials)
             (record { host = host.now; port = port }) result }
         ensures calls { self.new.calls ≡ after_call self.old.calls }
-        ensures fails { is_to_fail self.old.calls ≡ true → IsErr result × (self.new.inner ≡ self.old.inner) }
-        ensures passes { is_to_fail self.old.calls ≡ false → result ≡ Err Failed → Rose (K.faults self.old.inner) (K.faults self.new.inner) }
+        ensures fails { is_to_fail self.old.calls ≡ true → IsErr result
+            × (self.new.inner ≡ self.old.inner) }
+        ensures passes { is_to_fail self.old.calls ≡ false → result ≡ Err Failed
+            → Rose (K.faults self.old.inner) (K.faults self.new.inner) }
     {
         let fails = self.calls.next_fails();
         self.dials.add(self.alloc, host, port)?;

@@ -46,10 +46,12 @@ impl Source for MemoryConnection {
 
     fn take(&mut self, into: &mut [u8]) -> Result<usize, Failed>
         requires { 0 < length into.old }
-        ensures bytes { Takes (Some (source_left (source_of self.old))) (Some (source_left (source_of self.new))) into.old into.new result }
+        ensures bytes { Takes (Some (source_left (source_of self.old)))
+            (Some (source_left (source_of self.new))) into.old into.new result }
         ensures cause { HasCause self.old.source.faults self.new.source.faults result }
         ensures beside { sink_of self.new ≡ sink_of self.old }
-        ensures exact { TakesPiece (source_of self.old) (source_of self.new) (length into.old) result }
+        ensures exact { TakesPiece (source_of self.old) (source_of self.new)
+            (length into.old) result }
     {
         self.source.take(into)
     }
@@ -67,7 +69,8 @@ impl Sink for MemoryConnection {
     ghost beside = { λ s. s.source };
 
     fn put(&mut self, piece: &[u8]) -> Result<(), Failed>
-        ensures bytes { Appends (Some (sink_bytes (sink_of self.old))) (Some (sink_bytes (sink_of self.new))) piece.now result }
+        ensures bytes { Appends (Some (sink_bytes (sink_of self.old)))
+            (Some (sink_bytes (sink_of self.new))) piece.now result }
         ensures cause { HasCause self.old.sink.faults self.new.sink.faults result }
         ensures beside { source_of self.new ≡ source_of self.old }
         ensures exact { PutsWithinRoom (sink_of self.old) (sink_of self.new) piece.now result }

@@ -23,7 +23,8 @@ pub struct MemoryPort {
     put_faults: u64,
     port_faults: u64,
     ghost fresh: { All IsFresh waiting.items },
-    ghost fits: { vec_len ended + (vec_len waiting + (if is_some current then 1 else 0)) ≤ vec_capacity ended },
+    ghost fits: { vec_len ended + (vec_len waiting + (if is_some current then 1 else 0))
+        ≤ vec_capacity ended },
 }
 
 // Keeps a connection that has ended, where there is one.
@@ -181,12 +182,15 @@ impl Port for MemoryPort {
 
     fn accept(&mut self) -> Result<(), Failed>
         requires { (port_tells self.old).listening ≡ true }
-        ensures tells { Accepts (port_tells self.old) (port_tells self.new) (Some (port_left self.old)) (Some (port_left self.new)) (Some (port_put self.old)) (Some (port_put self.new)) result }
+        ensures tells { Accepts (port_tells self.old) (port_tells self.new)
+            (Some (port_left self.old)) (Some (port_left self.new)) (Some (port_put self.old))
+            (Some (port_put self.new)) result }
         ensures cause { HasCause self.old.port_faults self.new.port_faults result }
         ensures takes { self.new.take_faults ≡ self.old.take_faults }
         ensures puts { self.new.put_faults ≡ self.old.put_faults }
         ensures calls { port_calls self.new ≡ after_call (port_calls self.old) }
-        ensures fails { IsErr result ↔ ((is_to_fail (port_calls self.old) || is_nothing_waiting self.old) ≡ true) }
+        ensures fails { IsErr result
+            ↔ ((is_to_fail (port_calls self.old) || is_nothing_waiting self.old) ≡ true) }
     {
         let fails = self.calls.next_fails();
         self.accepts = self.accepts.saturating_add(1);

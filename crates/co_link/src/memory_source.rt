@@ -1,5 +1,5 @@
-//! A source in memory, which gives its bytes in pieces of a stated size and has a list of calls that
-//! are to fail.
+//! A source in memory, which gives its bytes in pieces of a stated size and has a list of calls
+//! that are to fail.
 ghost use Rattle.std.specs.Prelude.{◌≡◌, ◌≤◌, ◌<◌, Some, [], vec_len};
 ghost use Rattle.co_link.specs.Calls.{calls_failing};
 ghost use Rattle.co_link.specs.Causes.{HasCause};
@@ -64,7 +64,8 @@ impl Source for MemorySource {
 
     fn take(&mut self, into: &mut [u8]) -> Result<usize, Failed>
         requires { 0 < length into.old }
-        ensures bytes { Takes (Some (source_left self.old)) (Some (source_left self.new)) into.old into.new result }
+        ensures bytes { Takes (Some (source_left self.old)) (Some (source_left self.new))
+            into.old into.new result }
         ensures cause { HasCause self.old.faults self.new.faults result }
         ensures beside { tt {0} ≡ tt {0} }
         ensures exact { TakesPiece self.old self.new (length into.old) result }

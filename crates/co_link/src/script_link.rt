@@ -67,8 +67,10 @@ impl Link for ScriptLink {
     ghost beside = { λ s. dialling_of s.dials };
 
     fn exchange(&mut self, request: Request, limit: u64) -> Result<Reply, LinkFault>
-        ensures told { Records (Some (script_told self.old)) (Some (script_told self.new)) request result }
-        ensures cause { LinkCause self.old.failures.count self.new.failures.count (last_call self.old.failures) (last_call self.new.failures)
+        ensures told { Records (Some (script_told self.old))
+            (Some (script_told self.new)) request result }
+        ensures cause { LinkCause self.old.failures.count self.new.failures.count
+            (last_call self.old.failures) (last_call self.new.failures)
             (record { target = request.target; limit = limit }) result }
         ensures ready { true ≡ true }
         ensures beside { dialling_of self.new.dials ≡ dialling_of self.old.dials }
@@ -109,12 +111,15 @@ impl Dial for ScriptLink {
     fn dial(&mut self, host: &str, port: u16) -> Result<(), LinkFault>
         ensures ready { OnOk result (true ≡ true) }
         ensures told { Clears (Some (script_told self.old)) (Some (script_told self.new)) result }
-        ensures cause { DialCause self.old.failures.count self.new.failures.count (last_call self.old.failures) (last_call self.new.failures) result }
-        ensures dialled { DialTells self.old.dials.count self.new.dials.count (dialled_last self.old.dials) (dialled_last self.new.dials)
+        ensures cause { DialCause self.old.failures.count self.new.failures.count
+            (last_call self.old.failures) (last_call self.new.failures) result }
+        ensures dialled { DialTells self.old.dials.count self.new.dials.count
+            (dialled_last self.old.dials) (dialled_last self.new.dials)
             (record { host = host.now; port = port }) result }
         ensures left { script_left self.new ≡ script_left self.old }
         ensures calls { script_calls self.new ≡ after_call (script_calls self.old) }
-        ensures fails { FailsExactly Failed OutOfMemory (is_to_fail (script_calls self.old)) result }
+        ensures fails { FailsExactly Failed OutOfMemory
+            (is_to_fail (script_calls self.old)) result }
     {
         let fails = self.calls.next_fails();
         self.dials.add(self.alloc, host, port)?;

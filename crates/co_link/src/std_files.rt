@@ -52,7 +52,8 @@ pub fn read_within<S: Source>(
     limit: u64,
 ) -> Result<Bytes, FileFault>
     ensures read { ReadsWithin limit (S.left source.old) (S.left source.new) result }
-    ensures cause { (result ≡ Err TooLong → ⊥) → FaultCause Failed (S.faults source.old) (S.faults source.new) result }
+    ensures cause { (result ≡ Err TooLong → ⊥)
+        → FaultCause Failed (S.faults source.old) (S.faults source.new) result }
     ensures beside { S.beside source.new ≡ S.beside source.old }
 {
     let most = (limit as usize).saturating_add(1);
@@ -132,10 +133,7 @@ fn replace_file<R: rt::Files>(
 ) -> Result<(), FileFault>
     ensures { result ≡ Err TooLong → ⊥ }
 {
-    let (beside, file) = match create_beside(rt, alloc, name) {
-        Ok(made) => made,
-        Err(fault) => return Err(fault),
-    };
+    let (beside, file) = create_beside(rt, alloc, name)?;
     let mut written = fill_file(file, mode, bytes);
     if written.is_ok() {
         written = fs::rename(rt, beside.as_str(), name);

@@ -30,7 +30,8 @@ pub fn take_behind<S: Source>(
     requires { place < vec_len buffer.old }
     ensures len { vec_len buffer.new ≡ vec_len buffer.old }
     ensures below { take place buffer.new.items ≡ take place buffer.old.items }
-    ensures taken { TakesInto (S.left source.old) (S.left source.new) buffer.new.items place result }
+    ensures taken { TakesInto (S.left source.old) (S.left source.new)
+        buffer.new.items place result }
     ensures cause { HasCause (S.faults source.old) (S.faults source.new) result }
     ensures beside { S.beside source.new ≡ S.beside source.old }
 {
@@ -71,7 +72,8 @@ fn fill<S: Source>(
 ) -> (usize, Result<(), TakeFault>)
     requires { vec_len buffer.old ≤ most }
     ensures filled { result.0 ≤ vec_len buffer.new }
-    ensures taken { TakesUpTo most buffer.old.items (take result.0 buffer.new.items) (S.left source.old) (S.left source.new) result.1 }
+    ensures taken { TakesUpTo most buffer.old.items (take result.0 buffer.new.items)
+        (S.left source.old) (S.left source.new) result.1 }
     ensures cause { FaultCause TakeFailed (S.faults source.old) (S.faults source.new) result.1 }
     ensures beside { S.beside source.new ≡ S.beside source.old }
 {
@@ -101,7 +103,8 @@ pub fn take_up_to<S: Source>(
     most: usize,
 ) -> Result<(), TakeFault>
     requires { vec_len buffer.old ≤ most }
-    ensures taken { TakesUpTo most buffer.old.items buffer.new.items (S.left source.old) (S.left source.new) result }
+    ensures taken { TakesUpTo most buffer.old.items buffer.new.items (S.left source.old)
+        (S.left source.new) result }
     ensures cause { FaultCause TakeFailed (S.faults source.old) (S.faults source.new) result }
     ensures beside { S.beside source.new ≡ S.beside source.old }
 {

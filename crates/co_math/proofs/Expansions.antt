@@ -1,10 +1,10 @@
 -- What the ciphertexts of an expansion mean.
-use Rattle.std.proofs.Common.{◌≡◌, ℕ, ◌+◌, ◌*◌, ◌-◌, ◌<◌, ◌≤◌, sym, ap, ◌∙◌, ⊎_elim, arith, ℤ, pos, ◌+ℤ◌, ◌-ℤ◌, ◌*ℤ◌}
+use Rattle.std.proofs.Common.{◌≡◌, ℕ, ◌+◌, ◌*◌, ◌-◌, ◌<◌, ◌≤◌, sym, ap, ◌∙◌, ⊎_elim, arith, ℤ, pos, ◌+ℤ◌, ◌*ℤ◌}
 use Rattle.std.proofs.lemmas.Bool.{cases_lt, cases_eq}
 use lib.IntN.{neg_ℤ}
 use Rattle.co_math.specs.Residues.{residue, Congruent}
 use Rattle.co_math.specs.Polynomials.{IsWrapped}
-use Rattle.co_math.specs.Expansions.{kept, moved_on}
+use Rattle.co_math.specs.Expansions.{evens}
 use Rattle.co_math.proofs.Integers.{linear, expand, mul_assoc, one-mul, mul-add}
 use Rattle.co_math.proofs.Residues.{cong-trans, cong-sym, cong-mul, cong-refl, cong_from, residue-is, residue-lt, residue-same, residue_small}
 use Rattle.co_math.proofs.Flips.{flip-even, flip-odd}
@@ -62,9 +62,9 @@ twice_at s v = ap (λ k. pos k *ℤ v) (omega arith) ∙ shape s v
     shape s v = omega (arith, linear, mul-add (pos s) v v)
 
 module _ (n s m k : ℕ) (h u : ℤ) (p a : ℤ → ℤ) (z : 0 < s) (w : IsWrapped n a) (e : n ≡ s * m) (inverse : Congruent (n + n) (h *ℤ (pos m +ℤ pos 1)) (pos 1)) (odd : h ≡ u +ℤ u +ℤ pos 1) (f : IsSpread s k p a) where
-  pub kept-IsSpread : IsSpread (2 * s) k p (kept h a)
-  unfolding kept
-  kept-IsSpread = record {
+  pub evens-IsSpread : IsSpread (2 * s) k p (evens h a)
+  unfolding evens
+  evens-IsSpread = record {
     at = λ v.
         let i = pos s *ℤ (v +ℤ v) in
         let t = twice_at s v in
@@ -93,54 +93,6 @@ module _ (n s m k : ℕ) (h u : ℤ) (p a : ℤ → ℤ) (z : 0 < s) (w : IsWrap
 
       opposite : (y : ℤ) → y +ℤ neg_ℤ y ≡ pos 0
       opposite y = omega (arith, linear)
-
-      later : (s : ℕ) (v : ℤ) (r : ℕ) → s ≤ r → pos s *ℤ v +ℤ pos r ≡ pos s *ℤ (v +ℤ pos 1) +ℤ pos (r - s)
-      later s v r q = omega (arith, linear, mul-add (pos s) v (pos 1))
-
-  pub moved_on-IsSpread : IsSpread (2 * s) (k + s) p (moved_on h s a)
-  unfolding moved_on
-  moved_on-IsSpread = record {
-    at = λ v.
-        let i = pos s *ℤ (v +ℤ v +ℤ pos 1) in
-        let t : pos (2 * s) *ℤ v +ℤ pos s ≡ i = ap (λ y. y +ℤ pos s) (twice_at s v) ∙ next s (v +ℤ v) in
-        let place : i +ℤ pos k ≡ pos (2 * s) *ℤ v +ℤ pos (k + s) = ap (λ y. y +ℤ pos k) (sym t) ∙ further (pos (2 * s) *ℤ v) in
-        ap (λ y. a y -ℤ a (h *ℤ y)) t ∙ ap (λ y. a i -ℤ y) (flip-odd n s m h u a w e inverse odd v) ∙ ap (λ y. y -ℤ neg_ℤ y) (f.at (v +ℤ v +ℤ pos 1))
-        ∙ double s (p (i +ℤ pos k)) ∙ ap (λ y. pos (2 * s) *ℤ p y) place;
-    none = λ v r l b. ⊎_elim
-        (λ g.  -- the even multiples
-        let i = pos s *ℤ (v +ℤ pos 1 +ℤ (v +ℤ pos 1)) in
-        let t : pos (2 * s) *ℤ v +ℤ pos r +ℤ pos s ≡ i = ap (λ y. y +ℤ pos r +ℤ pos s) (twice_at s v) ∙ ap (λ y. pos s *ℤ (v +ℤ v) +ℤ pos y +ℤ pos s) g ∙ twice_next s v in
-        ap (λ y. a y -ℤ a (h *ℤ y)) t ∙ ap (λ y. a i -ℤ y) (flip-even n s m h u a w e inverse odd (v +ℤ pos 1)) ∙ cancel (a i))
-        (λ ne. ⊎_elim
-        (λ q.
-        let x = v +ℤ v +ℤ pos 1 in
-        let t : pos (2 * s) *ℤ v +ℤ pos r +ℤ pos s ≡ pos s *ℤ x +ℤ pos r = ap (λ y. y +ℤ pos r +ℤ pos s) (twice_at s v) ∙ before s (v +ℤ v) r in
-        ap (λ y. a y -ℤ a (h *ℤ y)) t ∙ (λ j. f.none x r l q j -ℤ vanishes n s m h z e inverse k p a f x r l q j))
-        (λ q.
-        let x = v +ℤ v +ℤ pos 1 +ℤ pos 1 in
-        let t : pos (2 * s) *ℤ v +ℤ pos r +ℤ pos s ≡ pos s *ℤ x +ℤ pos (r - s) = ap (λ y. y +ℤ pos r +ℤ pos s) (twice_at s v) ∙ before s (v +ℤ v) r ∙ later s (v +ℤ v +ℤ pos 1) r q in
-        ap (λ y. a y -ℤ a (h *ℤ y)) t ∙ (λ j. f.none x (r - s) (omega arith) (omega arith) j -ℤ vanishes n s m h z e inverse k p a f x (r - s) (omega arith) (omega arith) j))
-        (cases_lt r s))
-        (cases_eq r s);
-  }
-    where
-      double : (s : ℕ) (y : ℤ) → pos s *ℤ y -ℤ neg_ℤ (pos s *ℤ y) ≡ pos (2 * s) *ℤ y
-      double s y = omega (arith, linear)
-
-      further : (x : ℤ) → x +ℤ pos s +ℤ pos k ≡ x +ℤ pos (k + s)
-      further x = omega (arith, linear)
-
-      next : (s : ℕ) (v : ℤ) → pos s *ℤ v +ℤ pos s ≡ pos s *ℤ (v +ℤ pos 1)
-      next s v = omega (arith, linear, mul-add (pos s) v (pos 1))
-
-      twice_next : (s : ℕ) (v : ℤ) → pos s *ℤ (v +ℤ v) +ℤ pos s +ℤ pos s ≡ pos s *ℤ (v +ℤ pos 1 +ℤ (v +ℤ pos 1))
-      twice_next s v = simp expand (omega (arith, linear))
-
-      cancel : (y : ℤ) → y -ℤ y ≡ pos 0
-      cancel y = omega (arith, linear)
-
-      before : (s : ℕ) (v : ℤ) (r : ℕ) → pos s *ℤ v +ℤ pos r +ℤ pos s ≡ pos s *ℤ (v +ℤ pos 1) +ℤ pos r
-      before s v r = omega (arith, linear, mul-add (pos s) v (pos 1))
 
       later : (s : ℕ) (v : ℤ) (r : ℕ) → s ≤ r → pos s *ℤ v +ℤ pos r ≡ pos s *ℤ (v +ℤ pos 1) +ℤ pos (r - s)
       later s v r q = omega (arith, linear, mul-add (pos s) v (pos 1))

@@ -30,4 +30,5 @@ residues_of m n f = map (λ k. residue m (f (pos k))) (range_with_len 0 n)
 pub record IsSubstituted (m g : ℕ) (xs ys : List ℕ) : Type 0 where
   pub len : length ys ≡ length xs
   pub below : AreBelow m ys
-  pub at : (k : ℕ) → k < length xs → Congruent m (coefficients ys (pos g *ℤ pos k)) (coefficients xs (pos k))
+  pub at : (k : ℕ) → k < length xs → Congruent m (coefficients ys (pos g *ℤ pos k))
+      (coefficients xs (pos k))

@@ -11,4 +11,5 @@ pub record IsDegree (n : ℕ) : Type 0 where
 
 -- the same as a test
 abbrev pub is_degree : ℕ → Bool
-is_degree n = n == 16 || n == 32 || n == 64 || n == 128 || n == 256 || n == 512 || n == 1024 || n == 2048 || n == 4096
+is_degree n = n == 16 || n == 32 || n == 64 || n == 128 || n == 256 || n == 512 || n == 1024
+    || n == 2048 || n == 4096

@@ -3,14 +3,15 @@ use Rattle.std.specs.Prelude.{ℕ, ℤ, pos, ◌+ℤ◌, ◌-ℤ◌, ◌*ℤ◌,
 use Prim.Native.Nat.{zero, suc}
 
 -- a + a(X^g), where h is the inverse of g
-unfoldable pub kept : ℤ → (ℤ → ℤ) → ℤ → ℤ
-kept h a i = a i +ℤ a (h *ℤ i)
+unfoldable pub evens : ℤ → (ℤ → ℤ) → ℤ → ℤ
+evens h a i = a i +ℤ a (h *ℤ i)
 
 -- X^(-s) (a - a(X^g))
-unfoldable pub moved_on : ℤ → ℕ → (ℤ → ℤ) → ℤ → ℤ
-moved_on h s a i = a (i +ℤ pos s) -ℤ a (h *ℤ (i +ℤ pos s))
+unfoldable pub odds : ℤ → ℕ → (ℤ → ℤ) → ℤ → ℤ
+odds h s a i = a (i +ℤ pos s) -ℤ a (h *ℤ (i +ℤ pos s))
 
 -- place k after j levels, where level j substitutes by the inverse of h j
 unfoldable pub expanded : (ℕ → ℤ) → (ℤ → ℤ) → ℕ → ℕ → ℤ → ℤ
 expanded h p zero k = p
-expanded h p (suc j) k = if nat_lt k (2 ^ j) then kept (h j) (expanded h p j k) else moved_on (h j) (2 ^ j) (expanded h p j (k - 2 ^ j))
+expanded h p (suc j) k = if nat_lt k (2 ^ j) then evens (h j) (expanded h p j k)
+    else odds (h j) (2 ^ j) (expanded h p j (k - 2 ^ j))

@@ -1,4 +1,5 @@
--- Polynomials modulo X^n + 1: the coefficient at every integer place, where a place n further has the opposite coefficient.
+-- Polynomials modulo X^n + 1: the coefficient at every integer place, where a place n further has
+-- the opposite coefficient.
 use Rattle.std.specs.Prelude.{ℕ, ℤ, pos, ◌+ℤ◌, ◌-ℤ◌, ◌*ℤ◌, neg_ℤ, ◌≡◌, ◌+◌, ◌-◌, ◌*◌, nat_lt, nat_eq, if◌then◌else◌}
 use Rattle.co_math.specs.Sums.{total}
 use Rattle.co_math.specs.Residues.{residue}
@@ -9,7 +10,8 @@ IsWrapped n a = (k : ℤ) → a (k +ℤ pos n) ≡ neg_ℤ (a k)
 
 -- the polynomial with the coefficients c 0 .. c (n - 1)
 unfoldable pub spread : ℕ → (ℕ → ℤ) → ℤ → ℤ
-spread n c k = if nat_lt (residue (n + n) k) n then c (residue (n + n) k) else neg_ℤ (c (residue (n + n) k - n))
+spread n c k = if nat_lt (residue (n + n) k) n then c (residue (n + n) k)
+    else neg_ℤ (c (residue (n + n) k - n))
 
 -- the negacyclic product: coefficient k is the sum of a i * b (k - i) over one period
 unfoldable pub product : ℕ → (ℤ → ℤ) → (ℤ → ℤ) → ℤ → ℤ
@@ -31,7 +33,8 @@ scaled c a k = c *ℤ a k
 unfoldable pub shifted : ℕ → (ℤ → ℤ) → ℤ → ℤ
 shifted e a k = a (k -ℤ pos e)
 
--- X^g for X, where h * g is 1 modulo 2n: a(X^g) as `substitution` has it, read back by the inverse h
+-- X^g for X, where h * g is 1 modulo 2n: a(X^g) as `substitution` has it, read back by the inverse
+-- h
 unfoldable pub substituted : ℤ → (ℤ → ℤ) → ℤ → ℤ
 substituted h a k = a (h *ℤ k)
 
@@ -49,4 +52,5 @@ substitution n g a k = total n (λ i. a (pos i) *ℤ unit n (k -ℤ pos (g * i))
 
 -- the sum of a_i * b_j over all i and j below n with i + j = s
 unfoldable pub convolution : ℕ → (ℤ → ℤ) → (ℤ → ℤ) → ℕ → ℤ
-convolution n a b s = total n (λ i. total n (λ j. if nat_eq (i + j) s then a (pos i) *ℤ b (pos j) else pos 0))
+convolution n a b s =
+    total n (λ i. total n (λ j. if nat_eq (i + j) s then a (pos i) *ℤ b (pos j) else pos 0))

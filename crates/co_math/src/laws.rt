@@ -1,4 +1,4 @@
-// Facts of numbers. Each function returns nothing: its contract is the fact.
+//! Facts of numbers. Each function returns nothing: its contract is the fact.
 
 ghost use Rattle.std.specs.Prelude.{◌≡◌, ◌+◌, ◌-◌, ◌*◌, ◌/◌, ◌%◌, ◌<◌, ◌≤◌, ◌^◌, ◌-ℤ◌, ℕ, ℤ, pos, List};
 ghost use Rattle.co_math.specs.Parameters.{first_modulus, second_modulus, q, plain_modulus, inverse_of_first};
@@ -16,7 +16,8 @@ pub fn numbers()
     ensures first { (first_modulus ≡ 35 * 2 ^ 45 + 1) × (first_modulus ≡ 1231453023109121) }
     ensures second { (second_modulus ≡ 19 * 2 ^ 46 + 1) × (second_modulus ≡ 1337006139375617) }
     ensures cipher { (q ≡ first_modulus * second_modulus) × (q ≡ 1646460252249558334074997702657) }
-    ensures inverse { (first_modulus * inverse_of_first % second_modulus ≡ 1) × (inverse_of_first ≡ 891337426250424) }
+    ensures inverse { (first_modulus * inverse_of_first % second_modulus ≡ 1)
+        × (inverse_of_first ≡ 891337426250424) }
     ensures plain { plain_modulus ≡ 2 ^ 16 + 1 }
     ensures base { (digit_bits ≡ 17) × (digit_base ≡ 2 ^ 17) }
     ensures count { (digit_count ≡ 6) × (q ≤ digit_base ^ digit_count) }
@@ -47,8 +48,10 @@ pub fn logarithms()
 
 /// 3 to the power (m - 1) / 2 is -1 modulo each of the moduli.
 pub fn halves()
-    ensures first { residue first_modulus (power (pos 3) ((first_modulus - 1) / 2)) ≡ first_modulus - 1 }
-    ensures second { residue second_modulus (power (pos 3) ((second_modulus - 1) / 2)) ≡ second_modulus - 1 }
+    ensures first { residue first_modulus (power (pos 3) ((first_modulus - 1) / 2))
+        ≡ first_modulus - 1 }
+    ensures second { residue second_modulus (power (pos 3) ((second_modulus - 1) / 2))
+        ≡ second_modulus - 1 }
     ensures plain { residue plain_modulus (power (pos 3) 32768) ≡ plain_modulus - 1 }
 {}
 

@@ -1,4 +1,5 @@
-// The numbers of the scheme. Each stands here alone; specs/Parameters.antt gives them to contracts.
+//! The numbers of the scheme. Each stands here alone; specs/Parameters.antt gives them to
+//! contracts.
 
 /// q1 = 35 * 2^45 + 1.
 pub const FIRST_MODULUS: u64 = 1231453023109121;
@@ -33,6 +34,8 @@ pub const LEAST_EXPONENT: u32 = 4;
 /// The greatest degree is 2^12.
 pub const MOST_EXPONENT: u32 = 12;
 
+/// The least number of coefficients of a polynomial.
 pub const LEAST_DEGREE: u32 = 1 << LEAST_EXPONENT;
 
+/// The greatest number of coefficients of a polynomial.
 pub const MOST_DEGREE: u32 = 1 << MOST_EXPONENT;

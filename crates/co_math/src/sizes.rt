@@ -1,4 +1,4 @@
-// Degrees and logarithms of counts.
+//! Degrees and logarithms of counts.
 
 ghost use Rattle.std.specs.Prelude.{◌≡◌, ◌↔◌, ◌≤◌, ◌^◌, IsTrue};
 ghost use Rattle.co_math.specs.Degrees.{IsDegree};

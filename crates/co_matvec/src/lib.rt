@@ -5,8 +5,8 @@
 //! blocks k and the rotations i of rotation i of query k times the diagonal polynomial of (k, i),
 //! ciphertext for ciphertext. Where each query hides which of its block's terms are keywords, each
 //! slot of a reply decrypts to a document's score.
-//! Not here: rotations (co_rot), encryption (co_bfv), what slots are (co_slots), how keywords become
-//! queries, and how ciphertexts are spelled in bytes.
+//! Not here: rotations (co_rot), encryption (co_bfv), what slots are (co_slots), how keywords
+//! become queries, and how ciphertexts are spelled in bytes.
 #![tactic(auto)]
 
 mod diagonals;

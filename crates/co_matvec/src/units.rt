@@ -36,7 +36,8 @@ fn add_diagonal(
     requires turned_degree { AreOfDegree weights.now.degree turned.now }
     requires sum_degree { sum.old.degree ≡ weights.now.degree }
     requires room_degree { spectrum_degree room.old ≡ weights.now.degree }
-    ensures adds { OnOk result ((c : Ciphertext) → AreCipherValues weights.now.degree c turned.now → AddsDiagonal weights.now a k i c sum.old sum.new) }
+    ensures adds { OnOk result ((c : Ciphertext) → AreCipherValues weights.now.degree c turned.now
+        → AddsDiagonal weights.now a k i c sum.old sum.new) }
     ensures degree { sum.new.degree ≡ sum.old.degree }
     ensures room_degree { spectrum_degree room.new ≡ weights.now.degree }
 {
@@ -140,7 +141,8 @@ fn turned_back(
     sums: &[CipherSum],
 ) -> Result<Vec<Cipher>, AllocError>
     requires { All (λ s. s.degree ≡ tables.now) sums.now }
-    ensures { IfOk result (λ replies. AreTurnedBack tables.now (length sums.now) sums.now replies.items) }
+    ensures { IfOk result (λ replies. AreTurnedBack tables.now (length sums.now)
+        sums.now replies.items) }
 {
     let mut replies = Vec::new(alloc);
     for a in 0..sums.len() {
@@ -191,7 +193,11 @@ impl<'w> Sums<'w> {
     /// The next rotations are of this keyword block.
     pub(crate) fn begin(&mut self, block: usize)
         requires { block < keyword_blocks self.old.weights }
-        ensures { self.new ≡ record { weights = self.old.weights; block = block; sums = self.old.sums } }
+        ensures { self.new ≡ record {
+          weights = self.old.weights;
+          block = block;
+          sums = self.old.sums;
+        } }
     {
         self.block = block;
     }
@@ -214,7 +220,8 @@ impl<'w> Sums<'w> {
 
     /// The ciphertexts that the sums are.
     pub(crate) fn replies(&self) -> Result<Vec<Cipher>, AllocError>
-        ensures { IfOk result (λ replies. AreTurnedBack self.now.weights.degree (length self.now.sums) self.now.sums replies.items) }
+        ensures { IfOk result (λ replies. AreTurnedBack self.now.weights.degree
+            (length self.now.sums) self.now.sums replies.items) }
     {
         turned_back(self.alloc, self.weights.tables(), &self.sums)
     }

@@ -1,10 +1,8 @@
 -- What a shape's ranges say, by orders.
-use Rattle.std.proofs.Common.{◌≡◌, ℕ, zero, suc, ◌+◌, ◌-◌, ◌*◌, ◌/◌, ◌%◌, ◌^◌, ◌<◌, ◌≤◌, Bool, true, false, refl, sym, subst, inl, inr, ◌⊎◌, arith, max}
+use Rattle.std.proofs.Common.{◌≡◌, ℕ, ◌+◌, ◌-◌, ◌*◌, ◌%◌, ◌^◌, ◌<◌, ◌≤◌, Bool, true, false, refl, sym, subst, inl, inr, ◌⊎◌, arith}
 use Rattle.std.specs.Prelude.{IsTrue, ◌&&◌, ◌||◌, ◌==◌, nat_le}
 use Rattle.std.proofs.lemmas.Bool.{eqb-true, leb-true}
-use Rattle.std.specs.Int.{div_ceil}
-use Rattle.std.proofs.lemmas.Grind.{div_ceil_times}
-use Rattle.std.proofs.Math.Nat.{mul-le-mul, mul-le-mul_left, mul-le-mul_right, pow-le-pow_right}
+use Rattle.std.proofs.Math.Nat.{mul-le-mul, mul-le-mul_right, pow-le-pow_right}
 use Rattle.co_math.specs.Degrees.{is_degree}
 pub use Rattle.co_math.proofs.Degrees.{degree_ranges}
 use Rattle.co_noise.specs.Shapes.{Numbers, HasRanges, is_within, is_chunk_count, are_in_range}
@@ -58,17 +56,6 @@ ranges s h =
     }
 
 -- ---- bounds of noise
-
-few_blocks : (k h terms : ℕ) → k * h < terms + h → terms ≤ 131072 → 8 ≤ h → k ≤ 16384
-few_blocks zero h terms lt few wide = omega arith
-few_blocks (suc m) h terms lt few wide = omega (arith, mul-le-mul_left m wide)
-
-pub blocks_few : (terms degree : ℕ) → terms ≤ 131072 → 16 ≤ degree → max 1 (div_ceil terms (degree / 2)) ≤ 16384
-blocks_few terms degree few wide =
-    let half : 8 ≤ degree / 2 = omega arith in
-    let times = div_ceil_times terms (degree / 2) (omega arith) in
-    let k = few_blocks (div_ceil terms (degree / 2)) (degree / 2) terms times.1 few half in
-    omega arith
 
 pub powers_small : (l : ℕ) → l ≤ 16 → 2 ^ l ≤ 65536
 powers_small l le = let two : 0 < 2 = omega arith in pow-le-pow_right {n = 2} two {i = l} {j = 16} le

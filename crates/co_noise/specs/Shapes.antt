@@ -19,7 +19,16 @@ pub record Numbers : Type 0 where
 -- the published numbers by name
 abbrev pub numbers : ℕ → ℕ → ℕ → ℕ → ℕ → ℕ → ℕ → ℕ → Numbers
 numbers degree documents terms hits salt rows bins chunks =
-    record { degree = degree; documents = documents; terms = terms; hits = hits; salt = salt; rows = rows; bins = bins; chunks = chunks }
+    record {
+      degree = degree;
+      documents = documents;
+      terms = terms;
+      hits = hits;
+      salt = salt;
+      rows = rows;
+      bins = bins;
+      chunks = chunks;
+    }
 
 -- ---- ranges
 
@@ -29,12 +38,15 @@ is_within low high n = nat_le low n && nat_le n high
 
 -- a chunk is the payload of one polynomial, 2 * degree bytes, and a bin has at most so many bytes
 abbrev pub is_chunk_count : ℕ → ℕ → Bool
-is_chunk_count degree chunks = is_within 1 most_chunks chunks && nat_le (chunks * (2 * degree)) most_bin
+is_chunk_count degree chunks =
+    is_within 1 most_chunks chunks && nat_le (chunks * (2 * degree)) most_bin
 
 -- each number is in its range
 abbrev pub are_in_range : Numbers → Bool
-are_in_range s = is_degree s.degree && is_within 1 most_documents s.documents && is_within 0 most_terms s.terms && is_within 1 most_hits s.hits
-    && is_within 0 4294967295 s.salt && is_within 1 most_rows s.rows && is_within 1 most_bins s.bins && is_chunk_count s.degree s.chunks
+are_in_range s = is_degree s.degree && is_within 1 most_documents s.documents
+    && is_within 0 most_terms s.terms && is_within 1 most_hits s.hits
+    && is_within 0 4294967295 s.salt && is_within 1 most_rows s.rows && is_within 1 most_bins s.bins
+    && is_chunk_count s.degree s.chunks
 
 -- the numbers where each is in its range, else nothing
 abbrev pub shape_of : Numbers → Option Numbers

@@ -1,4 +1,5 @@
-//! The published numbers of a library, the noise of its replies, and the test that there is room for it.
+//! The published numbers of a library, the noise of its replies, and the test that there is room
+//! for it.
 //!
 //! Model: a `Shape` is its eight numbers, each in its range; a `Tested` is a shape with rows and
 //! bins of at most the degree, and with twice each bound below the modulus of ciphertexts.

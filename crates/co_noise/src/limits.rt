@@ -1,4 +1,5 @@
-//! The greatest published numbers. Each stands here alone; specs/Limits.antt gives them to contracts.
+//! The greatest published numbers. Each stands here alone; specs/Limits.antt gives them to
+//! contracts.
 
 /// Documents of a library.
 pub const MOST_DOCUMENTS: u32 = 65_536;

@@ -39,12 +39,24 @@ impl Model for Shape {
 
     ghost view = { λ s. numbers s.degree s.documents s.terms s.hits s.salt s.rows s.bins s.chunks };
 
-    ghost invariant = { λ s. IsTrue (are_in_range (numbers s.degree s.documents s.terms s.hits s.salt s.rows s.bins s.chunks)) };
+    ghost invariant = { λ s.
+        IsTrue (are_in_range (numbers s.degree s.documents s.terms s.hits s.salt
+        s.rows s.bins s.chunks)) };
 
-    ghost inverse = { λ s. record { degree = s.degree; documents = s.documents; terms = s.terms; hits = s.hits; salt = s.salt; rows = s.rows; bins = s.bins; chunks = s.chunks } };
+    ghost inverse = { λ s. record {
+      degree = s.degree;
+      documents = s.documents;
+      terms = s.terms;
+      hits = s.hits;
+      salt = s.salt;
+      rows = s.rows;
+      bins = s.bins;
+      chunks = s.chunks;
+    } };
 }
 
-/// Whether a bin may have so many chunks: at least one, at most `MOST_CHUNKS` chunks and `MOST_BIN_BYTES` bytes.
+/// Whether a bin may have so many chunks: at least one, at most `MOST_CHUNKS` chunks and
+/// `MOST_BIN_BYTES` bytes.
 pub fn is_chunk_count(degree: u32, chunks: u32) -> bool
     ensures { result ≡ shapes.is_chunk_count degree chunks }
 {

@@ -99,9 +99,6 @@ not_text bytes not = elim (cases_Bool (is_utf8 bytes)) [
 pub text_of_title : (bytes : List ℕ) → IsTitle bytes → is_text bytes ≡ true
 text_of_title bytes is = let utf8 : is_utf8 bytes ≡ true = is_utf8-from_IsUtf8 bytes is.text in let plain : list_all is_plain bytes ≡ true = is.plain in rw (utf8, plain) refl
 
-pub title_of_text : (bytes : List ℕ) → length bytes ≤ 200 → is_text bytes ≡ true → IsTitle bytes
-title_of_text bytes few is = let text = both_true (is_utf8 bytes) (list_all is_plain bytes) is in record { short = few; text = IsUtf8-from_is_utf8 bytes text.0; plain = text.1 }
-
 -- ---- a record
 
 -- bytes from their parts

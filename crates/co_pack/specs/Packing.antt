@@ -27,11 +27,13 @@ place_at places i = slice_index_or places i no_place
 
 -- each document in turn stands in the first bin that has room beside those before it
 abbrev pub IsFirstFit : ℕ → List Place → Type 0
-IsFirstFit size places = (s : ℕ) → s < length places → IsNext size (take s places) (place_at places s)
+IsFirstFit size places =
+    (s : ℕ) → s < length places → IsNext size (take s places) (place_at places s)
 
 -- the document i is packed before j: it is longer, or as long and has the lower number
 abbrev pub IsEarlier : List ℕ → ℕ → ℕ → Type 0
-IsEarlier lengths i j = (slice_index lengths j < slice_index lengths i) ⊎ ((slice_index lengths i ≡ slice_index lengths j) × (i < j))
+IsEarlier lengths i j = (slice_index lengths j < slice_index lengths i)
+    ⊎ ((slice_index lengths i ≡ slice_index lengths j) × (i < j))
 
 -- how many bins the places need, at least one
 pub record IsBinCount (places : List Place) (bins : ℕ) : Type 0 where
@@ -42,10 +44,12 @@ pub record IsBinCount (places : List Place) (bins : ℕ) : Type 0 where
 -- the documents in the order of packing stand each in the first bin that fits
 pub record IsPacked (lengths : List ℕ) (size : ℕ) (places : List Place) (bins : ℕ) : Type 0 where
   pub many : length places ≡ length lengths
-  pub lengths_are : (i : ℕ) → i < length lengths → (place_at places i).length ≡ slice_index lengths i
+  pub lengths_are : (i : ℕ) → i < length lengths → (place_at places i).length
+      ≡ slice_index lengths i
   pub order : List ℕ
   pub permutes : IsPermutation (range_with_len 0 (length lengths)) order
-  pub in_order : (s t : ℕ) → s < t → t < length order → IsEarlier lengths (slice_index order s) (slice_index order t)
+  pub in_order : (s t : ℕ) → s < t → t < length order
+      → IsEarlier lengths (slice_index order s) (slice_index order t)
   pub first_fit : IsFirstFit size (map (λ i. place_at places i) order)
   pub count : IsBinCount places bins
 

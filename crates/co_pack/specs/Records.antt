@@ -17,7 +17,8 @@ title_bytes title = (length title ∷ []) ++ (title ++ replicate (TITLE_ROOM - l
 -- document, bin, offset and length, four bytes each, the highest first, and the title
 unfoldable pub record_bytes : ℕ → Place → List ℕ → List ℕ
 record_bytes document place title =
-    to_be_bytes w32 document ++ (to_be_bytes w32 place.bin ++ (to_be_bytes w32 place.offset ++ (to_be_bytes w32 place.length ++ title_bytes title)))
+    to_be_bytes w32 document ++ (to_be_bytes w32 place.bin
+    ++ (to_be_bytes w32 place.offset ++ (to_be_bytes w32 place.length ++ title_bytes title)))
 
 -- numbers of four bytes, and a title
 pub record IsRecord (r : Record) : Type 0 where
@@ -58,11 +59,14 @@ abbrev pub padded : List ℕ → ℕ → Option ℕ → Result (List ℕ) ℕ
 padded title end None = Ok title
 padded title end (Some k) = Err (end + k)
 
--- the title in the bytes of a record, or the place of the first fault: its length, its text, the zeros behind it
+-- the title in the bytes of a record, or the place of the first fault: its length, its text, the
+-- zeros behind it
 unfoldable pub title_within : List ℕ → Result (List ℕ) ℕ
 title_within bytes =
     if nat_lt MOST_TITLE (title_length bytes) then Err TITLE_LENGTH_AT
-    else if is_text (title_text bytes) then padded (title_text bytes) (TITLE_AT + title_length bytes) (position is_set (behind_title bytes))
+    else if is_text (title_text bytes)
+    then padded (title_text bytes) (TITLE_AT + title_length bytes)
+    (position is_set (behind_title bytes))
     else Err TITLE_AT
 
 -- the record that bytes with this title are
@@ -70,7 +74,8 @@ abbrev pub with_title : List ℕ → Result (List ℕ) ℕ → Result Record ℕ
 with_title bytes (Err place) = Err place
 with_title bytes (Ok title) = Ok (record {
   document = number_at 0 bytes;
-  place = record { bin = number_at 4 bytes; offset = number_at 8 bytes; length = number_at 12 bytes };
+  place =
+      record { bin = number_at 4 bytes; offset = number_at 8 bytes; length = number_at 12 bytes };
   title = title;
 })
 

@@ -1,9 +1,10 @@
-//! Puts documents into bins, the longest first, each into the first bin with room (first fit decreasing).
+//! Puts documents into bins, the longest first, each into the first bin with room (first fit
+//! decreasing).
 //!
-//! The bins stand in blocks of 256, each with a bound on the room of its bins. A block is scanned only
-//! where its bound allows the document, and a scan in vain makes the bound exact; so a block is
-//! scanned in vain at most once for each document that it takes. With D documents and B bins a packing
-//! costs at most D * ceil(B / 256) looks at bounds and about 1,000 * D looks at bins.
+//! The bins stand in blocks of 256, each with a bound on the room of its bins. A block is scanned
+//! only where its bound allows the document, and a scan in vain makes the bound exact; so a block
+//! is scanned in vain at most once for each document that it takes. With D documents and B bins a
+//! packing costs at most D * ceil(B / 256) looks at bounds and about 1,000 * D looks at bins.
 
 ghost use Rattle.std.specs.Prelude.{◌≡◌, ◌+◌, ◌*◌, ◌/◌, ◌<◌, ◌≤◌, ◌++◌, ◌^◌, ℕ, List, [], ◌∷◌, length, slice_index, slice_index_or, slice_set, IfOk, MatchOption, IfSome, map};
 ghost use Rattle.std.specs.List.{All, range_with_len};
@@ -60,8 +61,8 @@ pub fn bin_size(longest: u32, degree: u32, chunks: u32) -> u32
     pieces * piece
 }
 
-/// Puts documents, given by their lengths, into bins of `size` bytes: the longest first, and of equal
-/// ones the lowest number first, each into the first bin with room, behind what stands there.
+/// Puts documents, given by their lengths, into bins of `size` bytes: the longest first, and of
+/// equal ones the lowest number first, each into the first bin with room, behind what stands there.
 ///
 /// Gives the places by document, and the number of bins.
 pub fn pack_bins(alloc: Global, lengths: &[u32], size: u32) -> Result<(Places, u32), AllocError>
@@ -80,7 +81,9 @@ pub fn pack_bins(alloc: Global, lengths: &[u32], size: u32) -> Result<(Places, u
 fn first_in(rooms: &[u32], from: usize, to: usize, need: u32) -> Option<usize>
     requires range { from ≤ to }
     requires end { to ≤ length rooms.now }
-    ensures none { MatchOption result ((b : ℕ) → from ≤ b → b < to → slice_index rooms.now b < need) (λ bin. (b : ℕ) → from ≤ b → b < bin → slice_index rooms.now b < need) }
+    ensures none { MatchOption result ((b : ℕ) → from ≤ b → b < to
+        → slice_index rooms.now b < need) (λ bin. (b : ℕ) → from ≤ b → b < bin
+        → slice_index rooms.now b < need) }
     ensures some { IfSome result (λ bin. need ≤ slice_index rooms.now bin) }
     ensures within { IfSome result (λ bin. bin < to) }
     ensures above { IfSome result (λ bin. from ≤ bin) }
@@ -99,7 +102,9 @@ fn in_block(rooms: &[u32], tops: &mut [u32], block: usize, need: u32) -> Option<
     requires topped { IsTopped rooms.now tops.old }
     requires few { length tops.old ≤ 2 ^ 32 }
     requires block { block < length tops.old }
-    ensures none { MatchOption result ((b : ℕ) → block * BLOCK ≤ b → b < block * BLOCK + BLOCK → b < length rooms.now → slice_index rooms.now b < need) (λ bin. (b : ℕ) → block * BLOCK ≤ b → b < bin → slice_index rooms.now b < need) }
+    ensures none { MatchOption result ((b : ℕ) → block * BLOCK ≤ b → b < block * BLOCK + BLOCK
+        → b < length rooms.now → slice_index rooms.now b < need) (λ bin. (b : ℕ) → block * BLOCK ≤ b
+        → b < bin → slice_index rooms.now b < need) }
     ensures some { IfSome result (λ bin. need ≤ slice_index rooms.now bin) }
     ensures within { IfSome result (λ bin. bin < length rooms.now) }
     ensures topped { IsTopped rooms.now tops.new }
@@ -133,7 +138,9 @@ fn greatest_room(rooms: &[u32], from: usize, to: usize) -> u32
 fn first_fit(rooms: &[u32], tops: &mut [u32], need: u32) -> Option<usize>
     requires topped { IsTopped rooms.now tops.old }
     requires few { length tops.old ≤ 2 ^ 32 }
-    ensures none { MatchOption result ((b : ℕ) → b < length rooms.now → slice_index rooms.now b < need) (λ bin. (b : ℕ) → b < bin → slice_index rooms.now b < need) }
+    ensures none { MatchOption result ((b : ℕ) → b < length rooms.now
+        → slice_index rooms.now b < need) (λ bin. (b : ℕ) → b < bin
+        → slice_index rooms.now b < need) }
     ensures some { IfSome result (λ bin. need ≤ slice_index rooms.now bin) }
     ensures within { IfSome result (λ bin. bin < length rooms.now) }
     ensures topped { IsTopped rooms.now tops.new }
@@ -199,7 +206,8 @@ fn place_next(
     requires need { need ≤ size }
     requires within { All (λ room. room ≤ size) rooms.old.items }
     ensures long { IfOk result (λ p. p.length ≡ need) }
-    ensures next { IfOk result (λ p. (places : List Place) → IsRoom size places rooms.old.items → IsNext size places p × IsRoom size (places ++ p ∷ []) rooms.new.items) }
+    ensures next { IfOk result (λ p. (places : List Place) → IsRoom size places rooms.old.items
+        → IsNext size places p × IsRoom size (places ++ p ∷ []) rooms.new.items) }
     ensures topped { IfOk result (λ _. IsTopped rooms.new.items tops.new.items) }
     ensures short { IfOk result (λ _. length tops.new.items ≤ length rooms.new.items) }
     ensures within { IfOk result (λ _. All (λ room. room ≤ size) rooms.new.items) }
@@ -227,7 +235,9 @@ fn pack_in_order(
     requires numbers { All (λ d. d < length lengths.now) order.now }
     requires within { All (λ l. l ≤ size) lengths.now }
     ensures many { IfOk result (λ r. length r.0.items ≡ length order.now) }
-    ensures long { IfOk result (λ r. (s : ℕ) → s < length order.now → (slice_index_or r.0.items s no_place).length ≡ slice_index lengths.now (slice_index order.now s)) }
+    ensures long { IfOk result (λ r. (s : ℕ) → s < length order.now
+        → (slice_index_or r.0.items s no_place).length ≡ slice_index lengths.now
+        (slice_index order.now s)) }
     ensures first_fit { IfOk result (λ r. IsFirstFit size r.0.items) }
     ensures count { IfOk result (λ r. IsBinCount r.0.items r.1) }
 {
@@ -244,8 +254,10 @@ fn pack_in_order(
 /// The documents in the order of packing: by length downwards, and then by number.
 fn packing_order(alloc: Global, lengths: &[u32]) -> Result<Vec<u32>, AllocError>
     requires { length lengths.now ≤ MOST_DOCUMENTS }
-    ensures permutes { IfOk result (λ order. IsPermutation (range_with_len 0 (length lengths.now)) order.items) }
-    ensures in_order { IfOk result (λ order. (s t : ℕ) → s < t → t < length order.items → IsEarlier lengths.now (slice_index order.items s) (slice_index order.items t)) }
+    ensures permutes { IfOk result (λ order.
+        IsPermutation (range_with_len 0 (length lengths.now)) order.items) }
+    ensures in_order { IfOk result (λ order. (s t : ℕ) → s < t → t < length order.items
+        → IsEarlier lengths.now (slice_index order.items s) (slice_index order.items t)) }
 {
     let keys = sorted_keys(alloc, lengths)?;
     let order = documents(alloc, &keys)?;
@@ -262,7 +274,8 @@ fn documents(alloc: Global, keys: &[(Reverse<u32>, u32)]) -> Result<Vec<u32>, Al
 /// Each length with its document, in the order of packing.
 fn sorted_keys(alloc: Global, lengths: &[u32]) -> Result<Vec<(Reverse<u32>, u32)>, AllocError>
     requires { length lengths.now ≤ MOST_DOCUMENTS }
-    ensures permutes { IfOk result (λ keys. IsPermutation (range_with_len 0 (length lengths.now)) (map (λ k. k.1) keys.items)) }
+    ensures permutes { IfOk result (λ keys. IsPermutation (range_with_len 0 (length lengths.now))
+        (map (λ k. k.1) keys.items)) }
     ensures long { IfOk result (λ keys. All (λ k. k.0.0 ≡ slice_index lengths.now k.1) keys.items) }
     ensures sorted { IfOk result (λ keys. IsSorted key_cmp keys.items) }
 {
@@ -279,7 +292,9 @@ fn by_document(alloc: Global, order: &[u32], placed: &[Place]) -> Result<Vec<Pla
     requires permutes { IsPermutation (range_with_len 0 (length order.now)) order.now }
     requires many { length placed.now ≡ length order.now }
     ensures many { IfOk result (λ places. length places.items ≡ length order.now) }
-    ensures moved { IfOk result (λ places. (s : ℕ) → s < length order.now → slice_index_or places.items (slice_index order.now s) no_place ≡ slice_index_or placed.now s no_place) }
+    ensures moved { IfOk result (λ places. (s : ℕ) → s < length order.now
+        → slice_index_or places.items (slice_index order.now s) no_place
+        ≡ slice_index_or placed.now s no_place) }
 {
     let mut places = Vec::from_slice(alloc, placed)?;
     for s in 0..order.len() {

@@ -76,8 +76,10 @@ pub fn write_record(document: u32, place: Place, title: &Title, into: &mut [u8])
 /// written.
 pub fn read_record(alloc: Global, bytes: &[u8]) -> Result<Record, RecordFault>
     requires { length bytes.now ≡ RECORD_BYTES }
-    ensures found { IfOk result (λ r. IsRecord r × (bytes.now ≡ record_bytes r.document r.place r.title)) }
-    ensures only { (r : Record) → IsRecord r → bytes.now ≡ record_bytes r.document r.place r.title → IsReadAs result (Ok r) }
+    ensures found { IfOk result (λ r. IsRecord r
+        × (bytes.now ≡ record_bytes r.document r.place r.title)) }
+    ensures only { (r : Record) → IsRecord r → bytes.now ≡ record_bytes r.document r.place r.title
+        → IsReadAs result (Ok r) }
     ensures exact { IsReadAs result (record_of bytes.now) }
 {
     let title = title_in(alloc, bytes)?;

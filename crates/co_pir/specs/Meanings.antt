@@ -11,22 +11,27 @@ use Rattle.co_pir.specs.Messages.{query_polynomial}
 use Rattle.co_bfv.specs.Totals.{ciphertext_at}
 use Rattle.co_pir.specs.Tables.{Table, IsTable, payload, piece}
 
--- under the secret s, for which the expansion keys are good, the query is a fresh one for a row of so many rows
+-- under the secret s, for which the expansion keys are good, the query is a fresh one for a row of
+-- so many rows
 pub record AsksRow (s : ℤ → ℤ) (keys : Keys) (query : Ciphertext) (rows row : ℕ) : Type 0 where
   pub secret : IsWrapped (ciphertext_degree query) s
   pub good : All (IsGoodKey s) keys.expansions
   pub within : row < rows
-  pub asks : MeansWithin s query (polynomial_of (query_polynomial (ciphertext_degree query) rows row)) fresh_bound
+  pub asks : MeansWithin s query
+      (polynomial_of (query_polynomial (ciphertext_degree query) rows row)) fresh_bound
 
 -- the noise of an expanded query: each of l levels doubles it and adds that of a key switch
 abbrev pub expansion_bound : ℕ → ℕ → ℕ
-expansion_bound degree rows = 2 ^ log2_up rows * fresh_bound + (2 ^ log2_up rows - 1) * switch_bound degree
+expansion_bound degree rows =
+    2 ^ log2_up rows * fresh_bound + (2 ^ log2_up rows - 1) * switch_bound degree
 
 -- the ciphertexts mean the payload polynomials of these bytes, piece by piece, within b
-pub record MeansBytes (n : ℕ) (s : ℤ → ℤ) (cs : List Ciphertext) (bytes : List ℕ) (b : ℕ) : Type 0 where
+pub record MeansBytes (n : ℕ) (s : ℤ → ℤ) (cs : List Ciphertext) (bytes : List ℕ) (b : ℕ)
+    : Type 0 where
   pub len : length bytes ≡ length cs * (2 * n)
   pub below : AreBelow 256 bytes
-  pub means : (c : ℕ) → c < length cs → MeansWithin s (ciphertext_at cs c) (coefficients (payload n (piece (2 * n) c bytes))) b
+  pub means : (c : ℕ) → c < length cs
+      → MeansWithin s (ciphertext_at cs c) (coefficients (payload n (piece (2 * n) c bytes))) b
 
 -- a table, keys and a query of one degree, with a key for each level of the query's expansion
 pub record CanRetrieve (t : Table) (keys : Keys) (query : Ciphertext) : Type 0 where

@@ -8,9 +8,11 @@ use Rattle.co_switch.specs.Keys.{Keys}
 use Rattle.co_pir.specs.Expansions.{expanded}
 use Rattle.co_pir.specs.Tables.{Table, payload_at}
 
--- for a chunk, the sum over the rows of the expanded ciphertext of the row times the payload polynomial of the row's chunk
+-- for a chunk, the sum over the rows of the expanded ciphertext of the row times the payload
+-- polynomial of the row's chunk
 unfoldable pub chunk_reply : Table → List Ciphertext → ℕ → Ciphertext
-chunk_reply t cs chunk = ciphertext_total t.degree t.rows (λ r. plain_product (ciphertext_at cs r) (payload_at t r chunk))
+chunk_reply t cs chunk = ciphertext_total t.degree t.rows (λ r. plain_product (ciphertext_at cs r)
+    (payload_at t r chunk))
 
 -- one ciphertext for each chunk
 unfoldable pub table_reply : Table → List Ciphertext → List Ciphertext

@@ -6,13 +6,16 @@ ghost use Rattle.co_ring.specs.declared.moduli.Modulus.TheVariants.{Plain};
 ghost use Rattle.co_pir.specs.Tables as tables;
 ghost use Rattle.co_pir.specs.Units.{unit_count};
 ghost use Rattle.co_pir.specs.Units as units;
-ghost use Rattle.co_pir.specs.Tables.{IsTable, chunk_bytes, payload_at};
+ghost use Rattle.co_pir.specs.Tables.{IsTable, chunk_bytes, most_row_chunks, payload_at};
 
 use co_link::Bytes;
 use co_ring::{Degree, Poly};
 use co_slots::encode_bytes;
 use std::alloc::{AllocError, Global};
 use std::marker::Model;
+
+/// The most chunks of a row.
+pub const MOST_ROW_CHUNKS: u32 = 2_097_152;
 
 /// How many rows a unit of work has.
 pub(crate) const UNIT_ROWS: u32 = 64;
@@ -28,13 +31,23 @@ pub(crate) struct Contents {
 
 impl Model for Contents {
     ghost use Rattle.std.specs.Prelude.{◌≤◌};
-    ghost use Rattle.co_pir.specs.Tables.{Table, IsTable};
+    ghost use Rattle.co_pir.specs.Tables.{Table, IsTable, most_row_chunks};
 
     ghost Value = { Table };
 
-    ghost view = { λ t. record { degree = t.degree; rows = t.rows; chunks = t.chunks; bytes = t.bytes } };
+    ghost view = { λ t. record {
+      degree = t.degree;
+      rows = t.rows;
+      chunks = t.chunks;
+      bytes = t.bytes;
+    } };
 
-    ghost invariant = { λ t. IsTable (record { degree = t.degree; rows = t.rows; chunks = t.chunks; bytes = t.bytes }) × (t.chunks ≤ 2097152) };
+    ghost invariant = { λ t. IsTable (record {
+      degree = t.degree;
+      rows = t.rows;
+      chunks = t.chunks;
+      bytes = t.bytes;
+    }) × (t.chunks ≤ most_row_chunks) };
 }
 
 impl Contents {
@@ -42,7 +55,7 @@ impl Contents {
     pub(crate) fn new(degree: Degree, rows: u32, chunks: u32, bytes: Bytes) -> Contents
         requires some { 1 ≤ rows }
         requires few { rows ≤ degree }
-        requires short { chunks ≤ 2097152 }
+        requires short { chunks ≤ most_row_chunks }
         requires whole { length bytes ≡ rows * (chunks * (2 * degree)) }
         requires below { AreBelow 256 bytes }
         ensures { result ≡ record { degree = degree; rows = rows; chunks = chunks; bytes = bytes } }
@@ -56,6 +69,7 @@ impl Contents {
         }
     }
 
+    /// The degree of the payload polynomials.
     pub(crate) fn degree(&self) -> Degree
         ensures value { result ≡ self.now.degree }
         ensures table { IsTable self.now }
@@ -63,19 +77,22 @@ impl Contents {
         self.degree
     }
 
+    /// How many rows there are.
     pub(crate) fn rows(&self) -> u32
         ensures { result ≡ self.now.rows }
     {
         self.rows
     }
 
+    /// How many chunks a row has.
     pub(crate) fn chunks(&self) -> u32
         ensures { result ≡ self.now.chunks }
     {
         self.chunks
     }
 
-    /// How many units of work an answer has: for each chunk one for each 64 rows, the last with fewer.
+    /// How many units of work an answer has: for each chunk one for each 64 rows, the last with
+    /// fewer.
     pub(crate) fn units(&self) -> u64
         ensures value { result ≡ unit_count self.now }
         ensures few { result ≤ 2 ^ 32 }
@@ -104,7 +121,10 @@ impl Contents {
     pub(crate) fn payload(&self, alloc: Global, row: u32, chunk: u32) -> Result<Poly, AllocError>
         requires row { row < self.now.rows }
         requires chunk { chunk < self.now.chunks }
-        ensures { IfOk result (λ p. p ≡ record { modulus = Plain; coeffs = payload_at self.now row chunk }) }
+        ensures { IfOk result (λ p. p ≡ record {
+          modulus = Plain;
+          coeffs = payload_at self.now row chunk;
+        }) }
     {
         let bytes = self.chunk(row, chunk);
         let payload = encode_bytes(alloc, self.degree(), bytes)?;

@@ -11,6 +11,8 @@ ghost use Rattle.co_pir.specs.Replies.{retrieved};
 /// The reply to a query means the bytes of the row that is asked, under every secret for which the
 /// expansion keys are good.
 pub fn replies_mean_rows()
-    ensures { (t : Table) (keys : Keys) (query : Ciphertext) → CanRetrieve t keys query → (s : ℤ → ℤ) (row : ℕ) → AsksRow s keys query t.rows row
-        → MeansBytes t.degree s (retrieved t keys query) (row_bytes t row) (retrieve_bound t.degree t.rows) }
+    ensures { (t : Table) (keys : Keys) (query : Ciphertext) → CanRetrieve t keys query
+        → (s : ℤ → ℤ) (row : ℕ) → AsksRow s keys query t.rows row
+        → MeansBytes t.degree s (retrieved t keys query) (row_bytes t row)
+        (retrieve_bound t.degree t.rows) }
 {}

@@ -1,5 +1,7 @@
 -- Sums of products in the order of the leaves, and in the order of k.
-use Rattle.std.proofs.Common.{◌≡◌, ℕ, ◌+◌, ◌*◌, ◌%◌, ◌<◌, ◌^◌, List, length, get_or, replicate, arith, refl, sym, ap, subst, ◌∙◌, ⊎_elim, ℤ, pos, negsuc, ◌+ℤ◌, ◌*ℤ◌}
+use Rattle.std.proofs.Common.{◌≡◌, ℕ, ◌+◌, ◌*◌, ◌%◌, ◌<◌, ◌≤◌, ◌^◌, List, [], ◌∷◌, map, length, get_or, replicate, arith, refl, sym, ap, subst, ◌∙◌, ⊎_elim, ℤ, pos, negsuc, ◌+ℤ◌, ◌*ℤ◌}
+use Rattle.std.specs.List.{range_with_len}
+use Rattle.std.proofs.lemmas.List.FromFn.{length-map-range_with_len, get_or-map-range_with_len}
 use Rattle.std.proofs.lemmas.List.{length-replicate, get_or-replicate, get_or_past}
 use Rattle.std.proofs.lemmas.Bool.{cases_lt}
 use Rattle.std.proofs.lemmas.Nat.{mod_below}
@@ -11,15 +13,15 @@ use Rattle.co_math.proofs.Residues.{cong_from, cong-trans, cong-sym, cong-add, c
 use Rattle.co_math.proofs.Reduced.{remainder-is, residue_of}
 use Rattle.co_math.proofs.Evaluations.{value-product}
 use Rattle.co_math.specs.Exponents.{place}
-use Rattle.co_transform.specs.Trees.{HaveResidues}
-use Rattle.co_transform.specs.Gathered.{Gathered}
+use Rattle.co_transform.specs.Trees.{AreWithin, HaveResidues}
+use Rattle.co_transform.specs.Gathered.{Gathered, GatheredAll, products_at}
 use Rattle.co_transform.proofs.Reversals.{place-lt}
 use Rattle.co_ring.specs.declared.moduli.Modulus.{Modulus}
 use Rattle.co_ring.specs.Moduli.{value_of}
 use Rattle.co_ring.specs.Spectra.{in_order, AreLeaves, AreValues}
-use Rattle.co_ring.specs.Product_sums.{AreSumsOf, AreSumsWith, AreReduced, AreZeros}
+use Rattle.co_ring.specs.Product_sums.{AreSumLeaves, AreSumsOf, AreSumsWith, AreSumsWithAll, AreReduced, AreZeros, most_products}
 use Rattle.co_ring.proofs.Keeping.{value-positive}
-use Rattle.co_ring.proofs.Orderings.{in_order-length, in_order-get, value-zero, odd_minus, values_add}
+use Rattle.co_ring.proofs.Orderings.{in_order-length, in_order-get, view_length, value-zero, odd_minus, values_add}
 
 pub gathered_in_order : (l n : ℕ) (old a b new : List ℕ) → n ≡ 2 ^ l → Gathered old a b n new → (k : ℕ) → k < 2 ^ l
     → get_or (in_order l new) k 0 ≡ get_or (in_order l old) k 0 + get_or (in_order l a) k 0 * get_or (in_order l b) k 0
@@ -78,3 +80,71 @@ sums_reduced m n f sums values z h r = record {
       let x = power (pos (root m n)) (2 * k + 1) in
       r.each k (omega (arith, u, h.len)) ∙ remainder-is m (get_or sums k 0) ∙ residue-same m (pos (get_or sums k 0)) (value_at n f x) z (h.each k u);
 }
+
+-- pairs of lists in the order of k
+abbrev pub all_ordered : ℕ → List (List ℕ × List ℕ) → List (List ℕ × List ℕ)
+all_ordered l [] = []
+all_ordered l (p ∷ ps) = (in_order l p.0, in_order l p.1) ∷ all_ordered l ps
+
+ordered_at : (l k : ℕ) (pairs : List (List ℕ × List ℕ)) → k < 2 ^ l → products_at (all_ordered l pairs) k ≡ products_at pairs (place l k)
+ordered_at l k [] u = refl
+ordered_at l k (p ∷ ps) u = (λ i. in_order-get l k p.0 u i * in_order-get l k p.1 u i + ordered_at l k ps u i)
+
+-- the products of several pairs were added, in the order of k
+pub gathered_all_in_order : (l : ℕ) (xs old ys sums : List ℕ) (pairs views : List (List ℕ × List ℕ)) → in_order l xs ≡ sums → length xs ≡ 2 ^ l → old ≡ xs → all_ordered l pairs ≡ views
+    → GatheredAll old pairs (length old) ys → AreSumsWithAll sums views (in_order l ys)
+gathered_all_in_order l xs old ys sums pairs views own size same views_are g =
+    let n : length old ≡ 2 ^ l = ap length same ∙ size in
+    let whole = view_length l xs sums own in
+    record {
+      len = in_order-length l ys ∙ sym whole;
+      each = λ k u.
+          let w : k < 2 ^ l = omega (arith, u, whole) in
+          in_order-get l k ys w ∙ g.done (place l k) (omega (arith, place-lt l k, n))
+          ∙ (λ i. sym (in_order-get l k old w) i + sym (ordered_at l k pairs w) i)
+          ∙ (λ i. get_or (in_order l (same i)) k 0 + products_at (views_are i) k)
+          ∙ ap (λ (zs : List ℕ). get_or zs k 0 + products_at views k) own;
+    }
+
+-- the leaves of a spectrum are as many as those of a sum, and below the modulus
+pub leaves_fit : (l : ℕ) (xs old sums values leaves : List ℕ) → in_order l xs ≡ sums → length xs ≡ 2 ^ l → old ≡ xs → length values ≡ length sums → length leaves ≡ length values → length leaves ≡ length old
+leaves_fit l xs old sums values leaves own size same one e = e ∙ one ∙ view_length l xs sums own ∙ sym size ∙ sym (ap length same)
+
+pub leaves_below : (m : ℕ) (own view its : Modulus) (leaves : List ℕ) → m ≡ value_of own → own ≡ view → its ≡ view → AreWithin (value_of its) leaves → AreWithin m leaves
+leaves_below m own view its leaves e o i h = subst (λ (k : ℕ). AreWithin k leaves) (ap value_of (i ∙ sym o) ∙ sym e) h
+
+-- the leaves of a sum with more products
+pub more_leaves : (modulus : Modulus) (l count more m : ℕ) (xs old ys : List ℕ) → AreSumLeaves modulus l count xs → m ≡ value_of modulus → old ≡ xs → length ys ≡ length old → count + more ≤ most_products
+    → AreWithin ((count + more) * (m * m)) ys → AreSumLeaves modulus l (count + more) ys
+more_leaves modulus l count more m xs old ys h e same len few w = record {
+  least = h.least;
+  most = h.most;
+  len = len ∙ ap length same ∙ h.len;
+  few = few;
+  within = subst (λ (k : ℕ). AreWithin ((count + more) * (k * k)) ys) e w;
+}
+
+-- one product more, as a list
+pub with_product : List ℕ → List ℕ → List ℕ → List ℕ
+with_product old a b = map (λ k. get_or old k 0 + get_or a k 0 * get_or b k 0) (range_with_len 0 (length old))
+
+with-length : (old a b : List ℕ) → length (with_product old a b) ≡ length old
+unfolding with_product
+with-length old a b = length-map-range_with_len (λ k. get_or old k 0 + get_or a k 0 * get_or b k 0) 0 (length old)
+
+with-get : (old a b : List ℕ) (k : ℕ) → k < length old → get_or (with_product old a b) k 0 ≡ get_or old k 0 + get_or a k 0 * get_or b k 0
+unfolding with_product
+with-get old a b k u = let e : 0 + k ≡ k = omega arith in get_or-map-range_with_len (λ k. get_or old k 0 + get_or a k 0 * get_or b k 0) 0 (length old) k k 0 u e
+
+pub with_product-is : (old a b : List ℕ) → AreSumsWith old a b (with_product old a b)
+with_product-is old a b = record { len = with-length old a b; each = with-get old a b }
+
+-- several products are the first of them, and then the rest
+pub first_of_all : (old a b new : List ℕ) (pairs : List (List ℕ × List ℕ)) → AreSumsWithAll old ((a, b) ∷ pairs) new → AreSumsWithAll (with_product old a b) pairs new
+first_of_all old a b new pairs h = record {
+  len = h.len ∙ sym (with-length old a b);
+  each = λ k u. let w : k < length old = omega (arith, u, with-length old a b) in omega (arith, h.each k w, with-get old a b k w);
+}
+
+pub last_of_all : (old a b new : List ℕ) → AreSumsWithAll old ((a, b) ∷ []) new → AreSumsWith old a b new
+last_of_all old a b new h = record { len = h.len; each = λ k u. omega (arith, h.each k u) }

@@ -5,6 +5,7 @@ use Rattle.co_math.specs.Residues.{Congruent}
 use Rattle.co_math.specs.Powers.{power, root}
 use Rattle.co_math.specs.Values.{value_at}
 use Rattle.co_transform.specs.Trees.{AreWithin}
+use Rattle.co_transform.specs.Gathered.{products_at}
 use Rattle.co_ring.specs.declared.moduli.Modulus.{Modulus}
 use Rattle.co_ring.specs.declared.sums.TheConstants.{MOST_PRODUCTS}
 use Rattle.co_ring.specs.Moduli.{value_of}
@@ -35,7 +36,13 @@ pub record AreZeros (n : ℕ) (sums : List ℕ) : Type 0 where
 -- value by value, a * b was added, and nothing was reduced
 pub record AreSumsWith (old a b new : List ℕ) : Type 0 where
   pub len : length new ≡ length old
-  pub each : (k : ℕ) → k < length old → slice_index new k ≡ slice_index old k + slice_index a k * slice_index b k
+  pub each : (k : ℕ) → k < length old → slice_index new k
+      ≡ slice_index old k + slice_index a k * slice_index b k
+
+-- value by value, the products of pairs of lists were added, and nothing was reduced
+pub record AreSumsWithAll (old : List ℕ) (pairs : List (List ℕ × List ℕ)) (new : List ℕ) : Type 0 where
+  pub len : length new ≡ length old
+  pub each : (k : ℕ) → k < length old → slice_index new k ≡ slice_index old k + products_at pairs k
 
 -- value by value, the sums modulo m
 pub record AreReduced (m : ℕ) (sums values : List ℕ) : Type 0 where
@@ -54,7 +61,14 @@ pub record IsSumWith (old : Sums) (a b : List ℕ) (new : Sums) : Type 0 where
   pub one_more : new.count ≡ old.count + 1
   pub sums : AreSumsWith old.values a b new.values
 
+-- a product more for each pair
+pub record IsSumWithAll (old : Sums) (pairs : List (List ℕ × List ℕ)) (new : Sums) : Type 0 where
+  pub one_modulus : new.modulus ≡ old.modulus
+  pub more : new.count ≡ old.count + length pairs
+  pub sums : AreSumsWithAll old.values pairs new.values
+
 -- modulo m, the sums are the values of the polynomial f at psi ^ (2k + 1)
 pub record AreSumsOf (m n : ℕ) (f : ℤ → ℤ) (sums : List ℕ) : Type 0 where
   pub len : length sums ≡ n
-  pub each : (k : ℕ) → k < n → Congruent m (pos (slice_index sums k)) (value_at n f (power (pos (root m n)) (2 * k + 1)))
+  pub each : (k : ℕ) → k < n → Congruent m (pos (slice_index sums k))
+      (value_at n f (power (pos (root m n)) (2 * k + 1)))

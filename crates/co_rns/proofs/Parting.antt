@@ -1,40 +1,18 @@
 -- What a list of numbers modulo q tells of its residues modulo q1 and q2, and they of it.
-use Rattle.std.proofs.Common.{◌≡◌, ℕ, ◌+◌, ◌%◌, ◌<◌, refl, sym, ap, subst, ◌∙◌, ⊎_elim, arith, ℤ, pos, List, [], ◌∷◌, ◌++◌, length, get_or}
+use Rattle.std.proofs.Common.{◌≡◌, ℕ, ◌+◌, ◌%◌, ◌<◌, sym, ap, subst, ◌∙◌, ⊎_elim, arith, ℤ, pos, List, [], ◌∷◌, ◌++◌, length, get_or}
 use Rattle.std.proofs.lemmas.Bool.{cases_eq}
 use Rattle.std.proofs.lemmas.Grind.{elements}
 use Rattle.co_math.specs.Parameters.{first_modulus, second_modulus, q}
 use Rattle.co_math.specs.Residues.{residue, Congruent}
-use Rattle.co_math.specs.Coefficients.{coefficients, AreBelow, AreResidues, IsDegree}
-use Rattle.co_math.proofs.Residues.{cong_from, cong-sym, cong-trans, residue-same}
-use Rattle.co_math.proofs.Reduced.{reduced_as, residue_of, remainder-is}
+use Rattle.co_math.specs.Coefficients.{AreBelow, AreResidues, IsDegree}
+use Rattle.co_math.proofs.Residues.{cong-sym, cong-trans}
+use Rattle.co_math.proofs.Reduced.{reduced_as, residue_of}
 use Rattle.co_math.proofs.Powers.{mod-is}
-use Rattle.co_math.proofs.Agreements.{Agree, coefficients_agree}
 use Rattle.co_ring.specs.declared.moduli.Modulus.{Modulus}
 use Rattle.co_ring.specs.Moduli.{value_of}
 use Rattle.co_ring.specs.Polynomials.{IsPolynomial}
 use Rattle.co_rns.specs.Residue_pairs.{AreResiduesOf}
-use Rattle.co_rns.proofs.Composing.{both, of_first, of_second}
-
--- the residues of a list agree with it at every integer place
-pub part_agrees : (m : ℕ) (cs xs : List ℕ) → 0 < m → 0 < length cs → AreResiduesOf m cs xs → Agree m (coefficients xs) (coefficients cs)
-part_agrees m cs xs p z h =
-    coefficients_agree m xs cs (omega (arith, h.len)) (sym h.len)
-    (λ k u. cong-trans m (cong_from m (ap pos (h.each k (omega (arith, h.len))))) (mod-is m (get_or cs k 0) p))
-
--- the residues of a list of residues of f
-part_residues : (m n : ℕ) (f : ℤ → ℤ) (cs xs : List ℕ) → 0 < m → ((x y : ℤ) → Congruent q x y → Congruent m x y) → AreResidues q n f cs → AreResiduesOf m cs xs → AreResidues m n f xs
-part_residues m n f cs xs p down h r = record {
-  len = r.len ∙ h.len;
-  each = λ k u.
-      r.each k (omega (arith, h.len)) ∙ remainder-is m (get_or cs k 0)
-      ∙ residue-same m (pos (get_or cs k 0)) (f (pos k)) p (down (pos (get_or cs k 0)) (f (pos k)) (residue_of q (get_or cs k 0) (f (pos k)) (omega arith) (h.each k u)));
-}
-
-pub first_residues_of : (n : ℕ) (f : ℤ → ℤ) (cs xs : List ℕ) → AreResidues q n f cs → AreResiduesOf first_modulus cs xs → AreResidues first_modulus n f xs
-first_residues_of n f cs xs h r = part_residues first_modulus n f cs xs (omega arith) (λ x y c. of_first c) h r
-
-pub second_residues_of : (n : ℕ) (f : ℤ → ℤ) (cs xs : List ℕ) → AreResidues q n f cs → AreResiduesOf second_modulus cs xs → AreResidues second_modulus n f xs
-second_residues_of n f cs xs h r = part_residues second_modulus n f cs xs (omega arith) (λ x y c. of_second c) h r
+use Rattle.co_rns.proofs.Composing.{both}
 
 -- a list whose residues are those of f modulo both is that of f modulo q
 pub whole_residues : (n : ℕ) (f : ℤ → ℤ) (cs xs ys : List ℕ) → AreBelow q cs → AreResiduesOf first_modulus cs xs → AreResiduesOf second_modulus cs ys
@@ -56,9 +34,6 @@ whole_residues n f cs xs ys b r s h i = record {
 pub record AreNumbers (f : ℕ → ℕ) (k : ℕ) (xs : List ℕ) : Type 0 where
   pub len : length xs ≡ k
   pub each : (j : ℕ) → j < k → get_or xs j 0 ≡ f j
-
-pub no_numbers : (f : ℕ → ℕ) → AreNumbers f 0 []
-no_numbers f = record { len = refl; each = λ j u. absurd (omega arith) }
 
 pub more_numbers : (f : ℕ → ℕ) (k x : ℕ) (xs : List ℕ) → AreNumbers f k xs → x ≡ f k → AreNumbers f (k + 1) (xs ++ x ∷ [])
 more_numbers f k x xs h e = record {

@@ -1,5 +1,5 @@
 -- Values of polynomials that agree modulo m, and of sums of products.
-use Rattle.std.proofs.Common.{◌≡◌, ℕ, ◌+◌, ◌*◌, ◌<◌, subst, ◌∙◌, arith, ℤ, pos, List}
+use Rattle.std.proofs.Common.{◌≡◌, ℕ, ◌+◌, ◌*◌, ◌<◌, suc, refl, subst, ◌∙◌, arith, ℤ, pos, List, [], ◌∷◌, length}
 use Rattle.co_math.specs.Powers.{power, root}
 use Rattle.co_math.specs.Values.{value_at}
 use Rattle.co_math.specs.Polynomials.{IsWrapped, plus, product}
@@ -16,8 +16,8 @@ use Rattle.co_ring.proofs.Keeping.{value-positive}
 use Rattle.co_ring.specs.Spectra.{AreValues}
 use Rattle.co_ring.proofs.Rooted.{root_minus}
 use Rattle.co_ring.proofs.Orderings.{added_values}
-use Rattle.co_ring.proofs.Summing.{sums_none, sums_with, sums_reduced}
-use Rattle.co_rns.specs.Spectra.{PairValues, PairSums, IsSpectrumOf, IsAddedProduct, IsNoPairSum, IsPairSumWith, IsPairSumOf, IsReducedPair}
+use Rattle.co_ring.proofs.Summing.{sums_none, sums_with, sums_reduced, with_product, with_product-is, first_of_all, last_of_all}
+use Rattle.co_rns.specs.Spectra.{PairValues, PairSums, IsSpectrumOf, IsAddedProduct, IsNoPairSum, IsPairSumWith, IsPairSumWithAll, IsPairSumOf, IsReducedPair}
 
 pub values_agree : (m n : ℕ) (f g : ℤ → ℤ) (xs : List ℕ) → 0 < m → Agree m f g → AreValues m n f xs → AreValues m n g xs
 unfolding value_at
@@ -57,3 +57,24 @@ gathered_reduced n f s values h r = record {
   first_values = sums_reduced first_modulus n f s.first values.first (omega arith) h.first_sums r.first_values;
   second_values = sums_reduced second_modulus n f s.second values.second (omega arith) h.second_sums r.second_values;
 }
+
+-- one product more, as sums
+abbrev pub with_pair : PairSums → PairValues → PairValues → PairSums
+with_pair old a b = record { count = old.count + 1; first = with_product old.first a.first b.first; second = with_product old.second a.second b.second }
+
+pub with_pair-is : (old : PairSums) (a b : PairValues) → IsPairSumWith old a b (with_pair old a b)
+with_pair-is old a b = record { one_more = refl; first_sums = with_product-is old.first a.first b.first; second_sums = with_product-is old.second a.second b.second }
+
+-- several products are the first of them, and then the rest
+pub first_of_pairs : (old : PairSums) (a b : PairValues) (new : PairSums) (pairs : List (PairValues × PairValues)) → IsPairSumWithAll old ((a, b) ∷ pairs) new → IsPairSumWithAll (with_pair old a b) pairs new
+first_of_pairs old a b new pairs h = record {
+  more = h.more ∙ shift old.count (length pairs);
+  first_sums = first_of_all old.first a.first b.first new.first _ h.first_sums;
+  second_sums = first_of_all old.second a.second b.second new.second _ h.second_sums;
+}
+  where
+    shift : (c n : ℕ) → c + suc n ≡ c + 1 + n
+    shift c n = omega arith
+
+pub last_of_pairs : (old : PairSums) (a b : PairValues) (new : PairSums) → IsPairSumWithAll old ((a, b) ∷ []) new → IsPairSumWith old a b new
+last_of_pairs old a b new h = record { one_more = h.more; first_sums = last_of_all old.first a.first b.first new.first h.first_sums; second_sums = last_of_all old.second a.second b.second new.second h.second_sums }

@@ -1,9 +1,9 @@
 -- The values of polynomials modulo q at the roots of -1, by both residues.
-use Rattle.std.specs.Prelude.{ℕ, ℤ, List, length, ◌≡◌, ◌+◌}
+use Rattle.std.specs.Prelude.{ℕ, ℤ, List, [], ◌∷◌, length, ◌≡◌, ◌+◌}
 use Rattle.co_math.specs.Parameters.{first_modulus, second_modulus}
 use Rattle.co_ring.specs.declared.moduli.Modulus.TheVariants.{First, Second}
 use Rattle.co_ring.specs.Spectra.{Values, AreValues, AreAddedProducts}
-use Rattle.co_ring.specs.Product_sums.{Sums, AreReduced, AreSumsOf, AreSumsWith, AreZeros}
+use Rattle.co_ring.specs.Product_sums.{Sums, AreReduced, AreSumsOf, AreSumsWith, AreSumsWithAll, AreZeros}
 use Rattle.co_ring.specs.Tables.{Shape}
 
 -- value k of a list is the one at psi ^ (2k + 1), where psi is the root of the list's modulus
@@ -61,6 +61,21 @@ pub record IsPairSumWith (old : PairSums) (a b : PairValues) (new : PairSums) : 
   pub one_more : new.count ≡ old.count + 1
   pub first_sums : AreSumsWith old.first a.first b.first new.first
   pub second_sums : AreSumsWith old.second a.second b.second new.second
+
+-- the values modulo q1 of pairs of spectra, and those modulo q2
+abbrev pub first_pairs : List (PairValues × PairValues) → List (List ℕ × List ℕ)
+first_pairs [] = []
+first_pairs (p ∷ ps) = (p.0.first, p.1.first) ∷ first_pairs ps
+
+abbrev pub second_pairs : List (PairValues × PairValues) → List (List ℕ × List ℕ)
+second_pairs [] = []
+second_pairs (p ∷ ps) = (p.0.second, p.1.second) ∷ second_pairs ps
+
+-- a product more for each pair
+pub record IsPairSumWithAll (old : PairSums) (pairs : List (PairValues × PairValues)) (new : PairSums) : Type 0 where
+  pub more : new.count ≡ old.count + length pairs
+  pub first_sums : AreSumsWithAll old.first (first_pairs pairs) new.first
+  pub second_sums : AreSumsWithAll old.second (second_pairs pairs) new.second
 
 -- the sums modulo q1 and q2
 pub record IsReducedPair (s : PairSums) (values : PairValues) : Type 0 where

@@ -14,8 +14,7 @@ ghost use Rattle.co_rns.specs.Residue_pairs.{centred_coefficients};
 use co_math::parameters::{
     DIGIT_BASE, DIGIT_BITS, FIRST_MODULUS, INVERSE_OF_FIRST, PLAIN_MODULUS, SECOND_MODULUS,
 };
-use co_ring::numbers::{multiply_by, subtract};
-use co_ring::{Degree, Modulus, Poly};
+use co_ring::{Degree, Modulus, Poly, multiply_by, subtract};
 use std::alloc::{AllocError, Global};
 
 /// floor(INVERSE_OF_FIRST * 2^64 / SECOND_MODULUS).

@@ -94,12 +94,14 @@ pub record LacksKeys (held : Option Keys) (target : Target) : Type 0 where
   pub wants : needs_keys target ≡ true
   pub none : holds_none held ≡ true
 
--- what is answered to a request under the keys that are held: the first of the refusals whose cause is there, or
--- the reply; want of memory is free
+-- what is answered to a request under the keys that are held: the first of the refusals whose cause
+-- is there, or the reply; want of memory is free
 abbrev pub IsAnswer : Parts → Option Keys → Request → Answer → Type 0
-IsAnswer l held r (Length wanted found) = (wanted ≡ request_size l.shape r.target) × (found ≡ length r.body) × (found ≢ wanted)
+IsAnswer l held r (Length wanted found) =
+    (wanted ≡ request_size l.shape r.target) × (found ≡ length r.body) × (found ≢ wanted)
 IsAnswer l held r NoKeys = (length r.body ≡ request_size l.shape r.target) × LacksKeys held r.target
-IsAnswer l held r (Range place) = (length r.body ≡ request_size l.shape r.target) × (LacksKeys held r.target → ⊥) × IsFirstOutOfRange r.body place
+IsAnswer l held r (Range place) = (length r.body ≡ request_size l.shape r.target)
+    × (LacksKeys held r.target → ⊥) × IsFirstOutOfRange r.body place
 IsAnswer l held r (Done reply) = IsDone l held r.target r.body reply
 IsAnswer l held r OutOfMemory = Unit {0}
 
@@ -114,7 +116,8 @@ HoldsDone s old Score body new = new ≡ old
 HoldsDone s old Meta body new = new ≡ old
 HoldsDone s old Document body new = new ≡ old
 
--- the keys that are held after an answer: those of a request for keys that was done, else those before
+-- the keys that are held after an answer: those of a request for keys that was done, else those
+-- before
 abbrev pub Holds : Numbers → Option Keys → Request → Answer → Option Keys → Type 0
 Holds s old r (Done reply) new = HoldsDone s old r.target r.body new
 Holds s old r (Length wanted found) new = new ≡ old
@@ -129,7 +132,8 @@ reply_with status body = record { status = status; body = body }
 
 abbrev pub reply_of : Answer → Reply
 reply_of (Done reply) = reply_with 200 reply
-reply_of (Length wanted found) = reply_with 400 (codes "length " ++ (decimal wanted ++ (codes " " ++ (decimal found ++ (10 ∷ [])))))
+reply_of (Length wanted found) = reply_with 400 (codes "length "
+    ++ (decimal wanted ++ (codes " " ++ (decimal found ++ (10 ∷ [])))))
 reply_of NoKeys = reply_with 409 []
 reply_of (Range place) = reply_with 400 (codes "range " ++ (decimal place ++ (10 ∷ [])))
 reply_of OutOfMemory = reply_with 503 []

@@ -28,30 +28,37 @@ pub record Asked : Type 0 where
 
 -- the bodies of the requests, after the one for the published parameters
 abbrev pub bodies_of : Asked → List (List ℕ)
-bodies_of a = keys_bytes a.keys ∷ ciphers_bytes a.scores ∷ ciphers_bytes a.records ∷ ciphers_bytes a.document ∷ []
+bodies_of a = keys_bytes a.keys ∷ ciphers_bytes a.scores ∷ ciphers_bytes a.records
+    ∷ ciphers_bytes a.document ∷ []
 
 -- the message that asks for a row of so many rows
 abbrev pub row_message : ℕ → ℕ → ℕ → List ℕ
 row_message n rows row = (query_polynomial n rows row).coeffs
 
 -- the keyword polynomials of the blocks of terms
-pub record AreKeywordMessages (s : Numbers) (keywords : List ℕ) (messages : List (List ℕ)) : Type 0 where
+pub record AreKeywordMessages (s : Numbers) (keywords : List ℕ) (messages : List (List ℕ))
+    : Type 0 where
   pub count : length messages ≡ keyword_blocks s
-  pub each : (k : ℕ) → k < length messages → HasSlots s.degree (keyword_slot s.degree keywords k) (slice_index_or messages k [])
+  pub each : (k : ℕ) → k < length messages
+      → HasSlots s.degree (keyword_slot s.degree keywords k) (slice_index_or messages k [])
 
--- the draws of a search, one after another: the secret, the key set, a query for each block of terms, a query for
--- each bucket, and one for a bin; and the rest of the stream
+-- the draws of a search, one after another: the secret, the key set, a query for each block of
+-- terms, a query for each bucket, and one for a bin; and the rest of the stream
 unfoldable pub asked_draw : Numbers → List (List ℕ) → List ℕ → ℕ → Stream → Asked × Stream
 asked_draw s messages rows bin stream =
     let secret = secret_draw s.degree stream in
     let keys = key_set_draw secret.0 (levels s) secret.1 in
     let scores = encryptions_draw secret.0 messages keys.1 in
     let records = encryptions_draw secret.0 (map (row_message s.degree s.rows) rows) scores.1 in
-    let document = encryptions_draw secret.0 (row_message s.degree s.bins bin ∷ []) records.1 in
-    (record { keys = keys.0; scores = scores.0; records = records.0; document = document.0 }, document.1)
+    let document = encryptions_draw secret.0 (row_message s.degree s.bins bin ∷ []) records.1 in (
+      record { keys = keys.0; scores = scores.0; records = records.0; document = document.0 },
+      document.1,
+    )
 
--- a search for these keywords, for a row of each bucket and for a bin, asks this, and leaves the rest of the stream
-pub record IsAsked (s : Numbers) (keywords rows : List ℕ) (bin : ℕ) (stream : Stream) (asked : Asked) (rest : Stream) : Type 0 where
+-- a search for these keywords, for a row of each bucket and for a bin, asks this, and leaves the
+-- rest of the stream
+pub record IsAsked (s : Numbers) (keywords rows : List ℕ) (bin : ℕ) (stream : Stream)
+    (asked : Asked) (rest : Stream) : Type 0 where
   pub messages : List (List ℕ)
   pub spelled : AreKeywordMessages s keywords messages
   pub drawn : asked_draw s messages rows bin stream ≡ (asked, rest)

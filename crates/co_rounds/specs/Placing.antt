@@ -1,5 +1,6 @@
 -- Where the records of hits are asked for.
--- Batches by buckets: Angel, Chen, Laine and Setty, PIR with Compressed Queries and Amortized Query Processing, 2018.
+-- Batches by buckets: Angel, Chen, Laine and Setty, PIR with Compressed Queries and Amortized Query
+-- Processing, 2018.
 use Rattle.std.specs.Prelude.{◌≡◌, ℕ, ◌==◌, List, length, map, Option, Some, None, slice_index_or}
 use Rattle.std.specs.List.{range_with_len, position}
 use Rattle.std.specs.Option.{unwrap_or}
@@ -41,7 +42,8 @@ pub record IsUnplaced (s : Numbers) (hits : List Ranked) (documents buckets : Li
 
 -- the place of a document in the list of a bucket that lists it
 abbrev pub place_in_bucket : Numbers → ℕ → ℕ → ℕ
-place_in_bucket s bucket document = unwrap_or (position (λ d. d == document) (bucket_documents s bucket)) 0
+place_in_bucket s bucket document =
+    unwrap_or (position (λ d. d == document) (bucket_documents s bucket)) 0
 
 -- the row of a document's record in a bucket, and where the record begins in the row
 abbrev pub document_row : Numbers → ℕ → ℕ → ℕ
@@ -57,4 +59,5 @@ row_asked s hits (Some rank) bucket = document_row s bucket (document_at hits ra
 
 -- the rows that are asked, bucket by bucket
 abbrev pub rows_asked : Numbers → List Ranked → List (Option ℕ) → List ℕ
-rows_asked s hits placed = map (λ b. row_asked s hits (slice_index_or placed b None) b) (range_with_len 0 (bucket_count s.hits))
+rows_asked s hits placed = map (λ b. row_asked s hits (slice_index_or placed b None) b)
+    (range_with_len 0 (bucket_count s.hits))

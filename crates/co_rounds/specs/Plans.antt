@@ -7,7 +7,8 @@ use Rattle.co_noise.specs.Shapes.{Numbers}
 use Rattle.co_wire.specs.Lengths.{request_size}
 use Rattle.co_wire.specs.Public.{public_of}
 
--- what the outside sees of a request: its target, which is its method and path, and the length of its body
+-- what the outside sees of a request: its target, which is its method and path, and the length of
+-- its body
 abbrev pub Seen : Type 0
 Seen = Target × ℕ
 
@@ -23,7 +24,8 @@ targets = Public ∷ Keys ∷ Score ∷ Meta ∷ Document ∷ []
 abbrev pub plan : Numbers → List Seen
 plan s = map (λ t. (t, request_size s t)) targets
 
--- the plan by what the first exchange publishes; before that, and where it publishes nothing good, the request for it
+-- the plan by what the first exchange publishes; before that, and where it publishes nothing good,
+-- the request for it
 abbrev pub plan_of : Result (Numbers × List (List ℕ)) ℕ → List Seen
 plan_of (Ok published) = plan published.0
 plan_of (Err place) = (Public, 0) ∷ []

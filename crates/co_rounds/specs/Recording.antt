@@ -22,6 +22,7 @@ use Rattle.co_library.specs.Libraries.{Parts, IsLibrary}
 use Rattle.co_library.specs.Refusals.{IsBuilt}
 use Rattle.co_rounds.specs.Serving.{bucket_table, bin_table}
 use Rattle.co_rounds.specs.Placing.{document_row, document_start}
+use Rattle.co_pack.specs.declared.records.TheConstants.{RECORD_BYTES}
 
 -- ---- what a library shows
 
@@ -34,21 +35,24 @@ pub record IsLibraryFor (documents : List Document) (settings : Settings) (l : P
 abbrev pub is_within_bins : Numbers → Place → Bool
 is_within_bins s p = nat_lt p.bin s.bins && nat_le (p.offset + p.length) (s.chunks * (2 * s.degree))
 
--- in the row of a bucket that is asked for a document stands its record, with its title and a place in the bins; and
--- in the bin of that place stands its text
+-- in the row of a bucket that is asked for a document stands its record, with its title and a place
+-- in the bins; and in the bin of that place stands its text
 pub record ShowsDocument (l : Parts) (bucket number : ℕ) (document : Document) : Type 0 where
   pub row : document_row l.shape bucket number < l.shape.rows
   pub place : Place
-  pub read : record_of (take 256 (drop (document_start l.shape bucket number) (row_bytes (bucket_table l bucket) (document_row l.shape bucket number))))
+  pub read : record_of (take RECORD_BYTES (drop (document_start l.shape bucket number)
+      (row_bytes (bucket_table l bucket) (document_row l.shape bucket number))))
       ≡ Ok (record { document = number; place = place; title = document.title })
   pub within : is_within_bins l.shape place ≡ true
-  pub text : take place.length (drop place.offset (row_bytes (bin_table l) place.bin)) ≡ document.text
+  pub text : take place.length (drop place.offset (row_bytes (bin_table l) place.bin))
+      ≡ document.text
 
 -- ---- what a client opens
 
 -- byte i of a payload: two bytes a coefficient, the higher first
 abbrev pub byte_of : List ℕ → ℕ → ℕ
-byte_of coeffs i = if i % 2 == 0 then slice_index coeffs (i / 2) / 256 else slice_index coeffs (i / 2) % 256
+byte_of coeffs i =
+    if i % 2 == 0 then slice_index coeffs (i / 2) / 256 else slice_index coeffs (i / 2) % 256
 
 -- the bytes of a payload
 abbrev pub bytes_of : List ℕ → List ℕ
@@ -56,9 +60,11 @@ bytes_of coeffs = map (byte_of coeffs) (range_with_len 0 (2 * length coeffs))
 
 -- the ciphertexts of a bucket, among those of all buckets
 abbrev pub bucket_replies : Numbers → List Ciphertext → ℕ → List Ciphertext
-bucket_replies s replies bucket = take (record_chunks s.degree) (drop (bucket * record_chunks s.degree) replies)
+bucket_replies s replies bucket =
+    take (record_chunks s.degree) (drop (bucket * record_chunks s.degree) replies)
 
--- a library that leaves room for its noise, a secret of its degree, and keys that are good for the secret
+-- a library that leaves room for its noise, a secret of its degree, and keys that are good for the
+-- secret
 pub record CanBeOpened (l : Parts) (secret : List ℤ) (keys : Keys) : Type 0 where
   pub library : IsLibrary l
   pub room : HasRoom l.shape
@@ -72,4 +78,5 @@ pub record AsksFor (n : ℕ) (secret : List ℤ) (query : Ciphertext) (rows row 
   pub cipher : IsCiphertext query
   pub degree : ciphertext_degree query ≡ n
   pub within : row < rows
-  pub fresh : MeansWithin (signed_coefficients secret) query (polynomial_of (query_polynomial n rows row)) fresh_bound
+  pub fresh : MeansWithin (signed_coefficients secret) query
+      (polynomial_of (query_polynomial n rows row)) fresh_bound

@@ -14,7 +14,8 @@ use Rattle.co_matvec.specs.Replies.{MeansSlots}
 -- each query is fresh for the keyword polynomial of its block of terms, under the secret
 abbrev pub AskScores : ℕ → List ℤ → List ℕ → List Ciphertext → Type 0
 AskScores n secret keywords queries =
-    (k : ℕ) → k < length queries → MeansSlots n (signed_coefficients secret) (ciphertext_at queries k) (keyword_slot n keywords k) fresh_bound
+    (k : ℕ) → k < length queries → MeansSlots n (signed_coefficients secret)
+    (ciphertext_at queries k) (keyword_slot n keywords k) fresh_bound
 
 -- the score of a document, as a client reads it: its slot in the reply of its block
 abbrev pub score_read : ℕ → List ℤ → List Ciphertext → ℕ → ℕ
@@ -22,4 +23,5 @@ score_read n secret replies d = slot (decrypted secret (ciphertext_at replies (d
 
 -- the scores of all documents
 abbrev pub scores_read : Numbers → List ℤ → List Ciphertext → List ℕ
-scores_read s secret replies = map (score_read s.degree secret replies) (range_with_len 0 s.documents)
+scores_read s secret replies =
+    map (score_read s.degree secret replies) (range_with_len 0 s.documents)

@@ -1,5 +1,6 @@
 -- What a server holds for a library, and what it computes under a client's keys.
--- Batches by buckets: Angel, Chen, Laine and Setty, PIR with Compressed Queries and Amortized Query Processing, 2018.
+-- Batches by buckets: Angel, Chen, Laine and Setty, PIR with Compressed Queries and Amortized Query
+-- Processing, 2018.
 use Rattle.std.specs.Prelude.{ℕ, List}
 use Rattle.std.specs.List.{flat_map, range_with_len}
 use Rattle.co_noise.specs.Shapes.{Numbers}
@@ -12,14 +13,20 @@ use Rattle.co_matvec.specs.Weights.{WeightMatrix}
 use Rattle.co_pir.specs.Tables.{Table, piece}
 use Rattle.co_pir.specs.Replies.{retrieved}
 use Rattle.co_library.specs.Libraries.{Parts}
+use Rattle.co_pack.specs.declared.records.TheConstants.{RECORD_BYTES}
 
 -- the weights, for scores
 abbrev pub weights_of : Parts → WeightMatrix
-weights_of l = record { degree = l.shape.degree; documents = l.shape.documents; terms = l.shape.terms; entries = l.weights }
+weights_of l = record {
+  degree = l.shape.degree;
+  documents = l.shape.documents;
+  terms = l.shape.terms;
+  entries = l.weights;
+}
 
--- the 256 bytes of a document's record
+-- the bytes of a document's record
 abbrev pub record_at : List ℕ → ℕ → List ℕ
-record_at records document = piece 256 document records
+record_at records document = piece RECORD_BYTES document records
 
 -- the documents that a bucket lists
 abbrev pub bucket_documents : Numbers → ℕ → List ℕ
@@ -31,13 +38,17 @@ bucket_table l bucket = record {
   degree = l.shape.degree;
   rows = l.shape.rows;
   chunks = record_chunks l.shape.degree;
-  bytes = bucket_bytes l.shape.degree l.shape.rows (record_at l.records) (bucket_documents l.shape bucket);
+  bytes = bucket_bytes l.shape.degree l.shape.rows (record_at l.records)
+      (bucket_documents l.shape bucket);
 }
 
 -- the bins, for retrieval of one
 abbrev pub bin_table : Parts → Table
-bin_table l = record { degree = l.shape.degree; rows = l.shape.bins; chunks = l.shape.chunks; bytes = l.bins }
+bin_table l =
+    record { degree = l.shape.degree; rows = l.shape.bins; chunks = l.shape.chunks; bytes = l.bins }
 
 -- the replies of all buckets, each to the query for it, bucket by bucket
 unfoldable pub gathered : Parts → Keys → List Ciphertext → List Ciphertext
-gathered l keys queries = flat_map (λ b. retrieved (bucket_table l b) keys (ciphertext_at queries b)) (range_with_len 0 (bucket_count l.shape.hits))
+gathered l keys queries =
+    flat_map (λ b. retrieved (bucket_table l b) keys (ciphertext_at queries b))
+    (range_with_len 0 (bucket_count l.shape.hits))

@@ -1,12 +1,12 @@
 //! Replies under a client's keys.
 
-ghost use Rattle.std.specs.Prelude.{◌≡◌, ◌≢◌, ◌≤◌, ◌<◌, ℕ, List, Option, Some, None, true, length, map, IfOk, OnOk};
+ghost use Rattle.std.specs.Prelude.{◌≡◌, ◌≢◌, ◌≤◌, ◌<◌, ℕ, List, Option, Some, None, true, length, map, IfOk, IfErr, OnOk};
 ghost use Rattle.std.specs.List.{flat_map, range_with_len};
 ghost use Rattle.co_switch.specs.Keys.{Keys};
 ghost use Rattle.co_bfv.specs.Ciphertexts.{Ciphertext, ciphertext_degree};
 ghost use Rattle.co_bfv.specs.Totals.{ciphertext_at};
 ghost use Rattle.co_pir.specs.Replies.{retrieved};
-ghost use Rattle.co_wire.specs.Bodies.{AreCiphers};
+ghost use Rattle.co_wire.specs.Bodies.{AreCiphers, SpellsCiphers};
 ghost use Rattle.co_bucket.specs.Lists.{bucket_count};
 ghost use Rattle.co_rounds.specs.Serving.{bucket_table, bin_table, gathered};
 ghost use Rattle.co_link.specs.declared.messages.Target.TheVariants as targets;
@@ -14,6 +14,7 @@ ghost use Rattle.co_wire.specs.BadBodies.{IsBadBody};
 ghost use Rattle.co_wire.specs.Bodies.{AreKeysFor};
 ghost use Rattle.co_wire.specs.Lengths.{request_size};
 ghost use Rattle.co_rounds.specs.Answers.{IsAnswer, needs_keys};
+ghost use Rattle.co_server.specs.Queries.{query_count, AreReplies};
 ghost use Rattle.co_server.specs.Refusals.{RefusedAs};
 
 use crate::loaded::Loaded;
@@ -87,46 +88,13 @@ pub fn reply_with<R: Threads + Sync, G: Gate, L>(
     requires workers { (1 ≤ workers) × (workers ≤ 64) }
     ensures { IsAnswer loaded.now (Some keys.now) request.now result }
 {
-    match request.target {
-        Target::Score => score_answer(rt, alloc, loaded, keys, request, workers, gate, steps),
-        Target::Meta => meta_answer(rt, alloc, loaded, keys, request, workers, gate, steps),
-        Target::Document => document_answer(rt, alloc, loaded, keys, request, workers, gate, steps),
-        Target::Public | Target::Keys => unreachable!(),
-    }
-}
-
-/// The answer to a request for scores.
-fn score_answer<R: Threads + Sync, G: Gate, L>(
-    rt: &R,
-    alloc: Global,
-    loaded: &Loaded,
-    keys: &KeySet,
-    request: &Request,
-    workers: u32,
-    gate: &G,
-    steps: &mut Steps<L>,
-) -> Answer
-    requires target { request.now.target ≡ targets.Score }
-    requires keys { AreKeysFor loaded.now.shape keys.now }
-    requires workers { (1 ≤ workers) × (workers ≤ 64) }
-    ensures { IsAnswer loaded.now (Some keys.now) request.now result }
-{
-    let shape = loaded.tested().shape();
-    let degree = Degree::of(shape.degree() as usize);
-    let body = request.body.as_slice();
-    let queries = match read_ciphers(alloc, degree, shape.keyword_blocks(), body) {
+    let queries = match read_queries(alloc, loaded, request) {
         Ok(queries) => queries,
         Err(fault) => return refusal(fault),
     };
-    let Ok(replies) = score(
-        rt,
-        alloc,
-        loaded.weights(),
-        keys,
-        &queries,
-        workers,
-        gate,
-        steps,
+    let target = request.target;
+    let Ok(replies) = replies(
+        rt, alloc, loaded, keys, target, &queries, workers, gate, steps,
     ) else {
         return Answer::OutOfMemory;
     };
@@ -136,35 +104,61 @@ fn score_answer<R: Threads + Sync, G: Gate, L>(
     }
 }
 
-/// The answer to a request for records, bucket by bucket.
-fn meta_answer<R: Threads + Sync, G: Gate, L>(
+/// How many queries a request for scores, records or a document has.
+fn count_queries(loaded: &Loaded, target: Target) -> u32
+    requires { needs_keys target ≡ true }
+    ensures { result ≡ query_count loaded.now.shape target }
+{
+    let shape = loaded.tested().shape();
+    match target {
+        Target::Score => shape.keyword_blocks(),
+        Target::Meta => buckets(shape.hits()),
+        Target::Document => 1,
+        Target::Public | Target::Keys => unreachable!(),
+    }
+}
+
+/// The queries of a request for scores, records or a document.
+fn read_queries(alloc: Global, loaded: &Loaded, request: &Request) -> Result<Vec<Cipher>, WireFault>
+    requires { needs_keys request.now.target ≡ true }
+    ensures spelled { IfOk result (λ cs. SpellsCiphers loaded.now.shape.degree (query_count loaded.now.shape request.now.target) cs.items request.now.body) }
+    ensures fault { IfErr result (IsBadBody (request_size loaded.now.shape request.now.target) request.now.body) }
+{
+    let degree = Degree::of(loaded.tested().shape().degree() as usize);
+    let count = count_queries(loaded, request.target);
+    let queries = read_ciphers(alloc, degree, count, request.body.as_slice())?;
+    Ok(queries)
+}
+
+/// The replies to the queries for scores, records or a document.
+fn replies<R: Threads + Sync, G: Gate, L>(
     rt: &R,
     alloc: Global,
     loaded: &Loaded,
     keys: &KeySet,
-    request: &Request,
+    target: Target,
+    queries: &[Cipher],
     workers: u32,
     gate: &G,
     steps: &mut Steps<L>,
-) -> Answer
-    requires target { request.now.target ≡ targets.Meta }
+) -> Result<Vec<Cipher>, AllocError>
+    requires target { needs_keys target ≡ true }
+    requires queries { AreCiphers loaded.now.shape.degree (query_count loaded.now.shape target) queries.now }
     requires keys { AreKeysFor loaded.now.shape keys.now }
     requires workers { (1 ≤ workers) × (workers ≤ 64) }
-    ensures { IsAnswer loaded.now (Some keys.now) request.now result }
+    ensures { IfOk result (λ cs. AreReplies loaded.now keys.now target queries.now cs.items) }
 {
-    let shape = loaded.tested().shape();
-    let degree = Degree::of(shape.degree() as usize);
-    let body = request.body.as_slice();
-    let queries = match read_ciphers(alloc, degree, buckets(shape.hits()), body) {
-        Ok(queries) => queries,
-        Err(fault) => return refusal(fault),
-    };
-    let Ok(replies) = gather(rt, alloc, loaded, keys, &queries, workers, gate, steps) else {
-        return Answer::OutOfMemory;
-    };
-    match write_ciphers(alloc, &replies) {
-        Ok(bytes) => Answer::Done(bytes),
-        Err(_) => Answer::OutOfMemory,
+    match target {
+        Target::Score => {
+            let weights = loaded.weights();
+            score(rt, alloc, weights, keys, queries, workers, gate, steps)
+        }
+        Target::Meta => gather(rt, alloc, loaded, keys, queries, workers, gate, steps),
+        Target::Document => {
+            let query = &queries[0];
+            answer(rt, alloc, loaded.bins(), keys, query, workers, gate, steps)
+        }
+        Target::Public | Target::Keys => unreachable!(),
     }
 }
 
@@ -222,45 +216,4 @@ fn bucket_reply<R: Threads + Sync, G: Gate, L>(
 {
     let rows = loaded.bucket(bucket);
     answer(rt, alloc, rows, keys, query, workers, gate, steps)
-}
-
-/// The answer to a request for a bin.
-fn document_answer<R: Threads + Sync, G: Gate, L>(
-    rt: &R,
-    alloc: Global,
-    loaded: &Loaded,
-    keys: &KeySet,
-    request: &Request,
-    workers: u32,
-    gate: &G,
-    steps: &mut Steps<L>,
-) -> Answer
-    requires target { request.now.target ≡ targets.Document }
-    requires keys { AreKeysFor loaded.now.shape keys.now }
-    requires workers { (1 ≤ workers) × (workers ≤ 64) }
-    ensures { IsAnswer loaded.now (Some keys.now) request.now result }
-{
-    let shape = loaded.tested().shape();
-    let degree = Degree::of(shape.degree() as usize);
-    let queries = match read_ciphers(alloc, degree, 1, request.body.as_slice()) {
-        Ok(queries) => queries,
-        Err(fault) => return refusal(fault),
-    };
-    let _ = loaded.library();
-    let Ok(replies) = answer(
-        rt,
-        alloc,
-        loaded.bins(),
-        keys,
-        &queries[0],
-        workers,
-        gate,
-        steps,
-    ) else {
-        return Answer::OutOfMemory;
-    };
-    match write_ciphers(alloc, &replies) {
-        Ok(bytes) => Answer::Done(bytes),
-        Err(_) => Answer::OutOfMemory,
-    }
 }

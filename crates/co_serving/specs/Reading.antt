@@ -1,5 +1,6 @@
 -- How the reading of one message ends, and what was said so far on a connection.
 use Rattle.std.specs.Prelude.{◌≡◌, ◌≢◌, ℕ, ◌+◌, ◌<◌, ◌≤◌, ◌⊎◌, List, [], ◌++◌, length, take, Option, Some, None, IfSome, IsSomeAnd, IsTrue, option_map, true, false, Result, Ok, Err, ⊤}
+use Rattle.co_link.specs.Causes.{Rose}
 use Rattle.co_link.specs.declared.messages.Target.{Target}
 use Rattle.co_link.specs.declared.messages.Request.{Request}
 use Rattle.co_link.specs.declared.messages.Reply.{Reply}
@@ -120,3 +121,10 @@ abbrev pub TurnsTo : {S : Type 0} → (S → Target → ℕ) → (S → Request 
 TurnsTo wanted steps s t input unread left put now count (Ok None) = SoFar wanted steps s t input unread put now (count + 1)
 TurnsTo wanted steps s t input unread left put now count (Ok (Some status)) = Serves wanted steps s t input left put now (count + 1) (closing_end (count + 1) status)
 TurnsTo wanted steps s t input unread left put now count (Err ended) = Serves wanted steps s t input left put now count ended
+
+-- the faults that end a connection come where their counts rose, and no count falls
+pub record HaveCauses (ended : Ended) (takes_before takes_now puts_before puts_now : ℕ) : Type 0 where
+  pub read_fault : ended ≡ ReadFault → Rose takes_before takes_now
+  pub write_fault : ended ≡ WriteFault → Rose puts_before puts_now
+  pub takes_later : takes_before ≤ takes_now
+  pub puts_later : puts_before ≤ puts_now

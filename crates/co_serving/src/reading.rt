@@ -10,7 +10,8 @@ ghost use Rattle.co_serving.specs.declared.ended.Ended.TheVariants.{ReadFault};
 ghost use Rattle.co_serving.specs.declared.message.Message.TheVariants as messages;
 ghost use Rattle.co_serving.specs.declared.response.Response.TheVariants as answers;
 
-use crate::{Ended, Lengths, Message, Response, Service};
+use crate::message::Message;
+use crate::{Answering, Ended, Lengths, Response};
 use co_http::{Conn, Head, HttpFault, Verb};
 use co_link::{Request, Source, Target};
 use std::alloc::Global;
@@ -92,8 +93,8 @@ fn read_request<C: Source>(
     })
 }
 
-/// Reads the next message: a request for a service, or one that is answered without it.
-pub fn next_message<C: Source, W: Lengths>(
+// Reads the next message: a request for a service, or one that is answered without it.
+fn next_message<C: Source, W: Lengths>(
     alloc: Global,
     lengths: &W,
     conn: &mut Conn,
@@ -137,25 +138,27 @@ fn refused(status: u16) -> Message
 }
 
 /// Reads the next message and has it answered.
-pub(crate) fn read_message<C: Source, S: Service>(
+pub(crate) fn read_message<C: Source, A: Answering>(
     alloc: Global,
-    service: &mut S,
+    answering: &mut A,
     conn: &mut Conn,
     line: &mut C,
 ) -> Result<Response, Ended>
-    requires { kept conn.old ≡ None }
-    ensures reads { ReadsMessage S.wanted S.steps service.old service.new (unread conn.old (C.left line.old)) (unread conn.new (C.left line.new)) (C.left line.new) result }
+    requires kept { kept conn.old ≡ None }
+    requires ready { A.may_answer answering.old }
+    ensures reads { ReadsMessage A.wanted A.answers answering.old answering.new (unread conn.old (C.left line.old)) (unread conn.new (C.left line.new)) (C.left line.new) result }
     ensures status { IfOk result (λ answer. IsTrue (is_status (status_of answer))) }
     ensures kept { IfOk result (λ answer. closes answer ≡ false → kept conn.new ≡ None) }
+    ensures ready { A.may_answer answering.new }
     ensures writes { cannot_write conn.new ≡ cannot_write conn.old }
     ensures later { C.faults line.old ≤ C.faults line.new }
     ensures failed { result ≡ Err ReadFault → Rose (C.faults line.old) (C.faults line.new) }
     ensures beside { C.beside line.new ≡ C.beside line.old }
 {
-    match next_message(alloc, &*service, conn, line) {
+    match next_message(alloc, &*answering, conn, line) {
         Ok(Message::Refused { response }) => Ok(response),
         Ok(Message::Asked { request }) => {
-            let reply = service.step(&request);
+            let reply = answering.answer(&request);
             Ok(Response::Replied { reply })
         }
         Err(ended) => Err(ended),

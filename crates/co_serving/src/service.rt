@@ -1,5 +1,5 @@
 //! What answers the requests of one connection.
-ghost use Rattle.std.specs.Prelude.{◌≡◌, ℕ, IsTrue, length, []};
+ghost use Rattle.std.specs.Prelude.{◌≡◌, ℕ, ⊤, IsTrue, length, []};
 ghost use Rattle.co_link.specs.declared.messages.Target.{Target};
 ghost use Rattle.co_link.specs.declared.messages.Request.{Request};
 ghost use Rattle.co_link.specs.declared.messages.Reply.{Reply};
@@ -29,4 +29,33 @@ pub trait Service: Lengths {
         ensures step { steps self.old request.now result self.new }
         ensures status { IsTrue (is_reply_status result.status) }
         ensures empty { result.status ≡ 503 → result.body ≡ [] };
+}
+
+/// What answers the requests of one connection from a state on in which it may.
+pub trait Answering: Lengths {
+    /// What an answer to a request of that length may be, and what it may leave.
+    ghost answers: { Self → Request → Reply → Self → Type 0 };
+
+    /// It may answer.
+    ghost may_answer: { Self → Type 0 };
+
+    /// Answers a request whose body has that length. The reply is whole: its status is 200, 400, 409
+    /// or, for want of memory, 503. It may answer again.
+    fn answer(&mut self, request: &Request) -> Reply
+        requires length { length request.now.body ≡ Self.wanted self.old request.now.target }
+        requires ready { may_answer self.old }
+        ensures answer { answers self.old request.now result self.new }
+        ensures status { IsTrue (is_reply_status result.status) }
+        ensures ready { may_answer self.new };
+}
+
+// A service may always answer.
+impl<S: Service> Answering for S {
+    ghost answers = { λ s request reply t. S.steps s request reply t };
+
+    ghost may_answer = { λ s. ⊤ };
+
+    fn answer(&mut self, request: &Request) -> Reply {
+        self.step(request)
+    }
 }

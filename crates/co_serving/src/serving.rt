@@ -5,17 +5,17 @@ ghost use Rattle.co_http.specs.Conn.{held, unread, kept, cannot_write, first_fau
 ghost use Rattle.co_http.specs.ShortText.{text_of};
 ghost use Rattle.co_http.specs.Responses.{is_status, Writes, WriteCause};
 ghost use Rattle.co_serving.specs.Conversation.{Serves, closing_end, status_of, closing_status, length_text, response_at};
-ghost use Rattle.co_serving.specs.Reading.{ServesMessage};
+ghost use Rattle.co_serving.specs.Reading.{ServesMessage, HaveCauses};
 ghost use Rattle.co_serving.specs.declared.ended.Ended.TheVariants.{ReadFault, WriteFault};
 
 use crate::reading::read_message;
-use crate::{Ended, Response, Served, Service};
+use crate::{Answering, Ended, Response, Served, Service};
 use co_http::{Conn, HttpFault, ShortText};
 use co_link::{Duplex, Sink};
 use std::alloc::Global;
 
-/// The most responses on one connection; the last of them closes it.
-pub const MOST_RESPONSES: u32 = 1000;
+// The most responses on one connection; the last of them closes it.
+const MOST_RESPONSES: u32 = 1000;
 
 // The text that says that a length is wrong.
 fn say_length(wanted: u64, found: u64) -> ShortText
@@ -30,8 +30,8 @@ fn say_length(wanted: u64, found: u64) -> ShortText
     text
 }
 
-/// The status of an answer that closes.
-pub fn status_if_closing(answer: &Response) -> Option<u16>
+// The status of an answer that closes.
+fn status_if_closing(answer: &Response) -> Option<u16>
     ensures { result ≡ closing_status answer.now }
 {
     match answer {
@@ -41,8 +41,8 @@ pub fn status_if_closing(answer: &Response) -> Option<u16>
     }
 }
 
-/// Writes the response of an answer, before which `count` responses came.
-pub fn write_answer<K: Sink>(
+// Writes the response of an answer, before which `count` responses came.
+fn write_answer<K: Sink>(
     conn: &mut Conn,
     sink: &mut K,
     answer: &Response,
@@ -73,18 +73,20 @@ pub fn write_answer<K: Sink>(
 
 // Reads the next message, has it answered and writes the response, before which `count` responses came. It
 // gives the status of a response that closes.
-fn serve_next<C: Duplex, S: Service>(
+fn serve_next<C: Duplex, A: Answering>(
     alloc: Global,
-    service: &mut S,
+    answering: &mut A,
     conn: &mut Conn,
     line: &mut C,
     count: u32,
 ) -> Result<Option<u16>, Ended>
+    requires ready { A.may_answer answering.old }
     requires kept { kept conn.old ≡ None }
     requires writes { cannot_write conn.old ≡ false }
     requires count { count < 1000 }
-    ensures serves { ServesMessage S.wanted S.steps service.old service.new (unread conn.old (C.left line.old)) (unread conn.new (C.left line.new)) (C.left line.new)
+    ensures serves { ServesMessage A.wanted A.answers answering.old answering.new (unread conn.old (C.left line.old)) (unread conn.new (C.left line.new)) (C.left line.new)
         (C.put_so_far line.old) (C.put_so_far line.new) count result }
+    ensures ready { A.may_answer answering.new }
     ensures kept { IfOk result (λ closing. closing ≡ None → kept conn.new ≡ None) }
     ensures writes { IfOk result (λ closing. cannot_write conn.new ≡ false) }
     ensures takes_later { C.Source.faults line.old ≤ C.Source.faults line.new }
@@ -93,7 +95,7 @@ fn serve_next<C: Duplex, S: Service>(
     ensures write_fault { result ≡ Err WriteFault → Rose (C.Sink.faults line.old) (C.Sink.faults line.new) }
     ensures beside { C.Duplex.beside line.new ≡ C.Duplex.beside line.old }
 {
-    let answer = match read_message(alloc, service, conn, line) {
+    let answer = match read_message(alloc, answering, conn, line) {
         Ok(answer) => answer,
         Err(ended) => return Err(ended),
     };
@@ -103,9 +105,9 @@ fn serve_next<C: Duplex, S: Service>(
     }
 }
 
-/// How a connection ends with a response of this status that closes it, `requests` responses having
-/// been written.
-pub fn closed_by(requests: u32, status: u16) -> Ended
+// How a connection ends with a response of this status that closes it, `requests` responses having
+// been written.
+fn closed_by(requests: u32, status: u16) -> Ended
     ensures { result ≡ closing_end requests status }
 {
     if requests == MOST_RESPONSES {
@@ -115,17 +117,15 @@ pub fn closed_by(requests: u32, status: u16) -> Ended
 }
 
 /// Serves one connection. Each message of its input is answered in order, whatever pieces the input comes
-/// in: by a refusal, or by a step of the service. It ends with the input, with the first response that closes,
+/// in: by a refusal, or by what may answer. It ends with the input, with the first response that closes,
 /// with the 1,000th response, or where taking or putting fails.
-pub fn serve_service<C: Duplex, S: Service>(alloc: Global, service: &mut S, line: &mut C) -> Served
+pub fn serve_by<C: Duplex, A: Answering>(alloc: Global, answering: &mut A, line: &mut C) -> Served
+    requires { A.may_answer answering.old }
     ensures serves { IfSome (C.left line.old) (λ input. IfSome (C.put_so_far line.old) (λ put.
-        Serves S.wanted S.steps service.old service.new input (C.left line.new) put (C.put_so_far line.new) result.requests result.ended)) }
+        Serves A.wanted A.answers answering.old answering.new input (C.left line.new) put (C.put_so_far line.new) result.requests result.ended)) }
     ensures requests { result.requests ≤ 1000 }
-    ensures read_fault { result.ended ≡ ReadFault → Rose (C.Source.faults line.old) (C.Source.faults line.new) }
-    ensures write_fault { result.ended ≡ WriteFault → Rose (C.Sink.faults line.old) (C.Sink.faults line.new) }
+    ensures causes { HaveCauses result.ended (C.Source.faults line.old) (C.Source.faults line.new) (C.Sink.faults line.old) (C.Sink.faults line.new) }
     ensures beside { C.Duplex.beside line.new ≡ C.Duplex.beside line.old }
-    ensures takes_later { C.Source.faults line.old ≤ C.Source.faults line.new }
-    ensures puts_later { C.Sink.faults line.old ≤ C.Sink.faults line.new }
 {
     let Ok(mut conn) = Conn::new(alloc) else {
         return Served {
@@ -135,7 +135,7 @@ pub fn serve_service<C: Duplex, S: Service>(alloc: Global, service: &mut S, line
     };
     let mut requests = 0;
     'serving: while requests < MOST_RESPONSES {
-        match serve_next(alloc, service, &mut conn, line, requests) {
+        match serve_next(alloc, answering, &mut conn, line, requests) {
             Ok(None) => requests += 1,
             Ok(Some(status)) => {
                 return Served {
@@ -150,4 +150,18 @@ pub fn serve_service<C: Duplex, S: Service>(alloc: Global, service: &mut S, line
         requests,
         ended: Ended::Spent,
     }
+}
+
+/// Serves one connection by a service, which may answer from any state on.
+pub fn serve_service<C: Duplex, S: Service>(alloc: Global, service: &mut S, line: &mut C) -> Served
+    ensures serves { IfSome (C.left line.old) (λ input. IfSome (C.put_so_far line.old) (λ put.
+        Serves S.wanted S.steps service.old service.new input (C.left line.new) put (C.put_so_far line.new) result.requests result.ended)) }
+    ensures requests { result.requests ≤ 1000 }
+    ensures read_fault { result.ended ≡ ReadFault → Rose (C.Source.faults line.old) (C.Source.faults line.new) }
+    ensures write_fault { result.ended ≡ WriteFault → Rose (C.Sink.faults line.old) (C.Sink.faults line.new) }
+    ensures beside { C.Duplex.beside line.new ≡ C.Duplex.beside line.old }
+    ensures takes_later { C.Source.faults line.old ≤ C.Source.faults line.new }
+    ensures puts_later { C.Sink.faults line.old ≤ C.Sink.faults line.new }
+{
+    serve_by(alloc, service, line)
 }

@@ -1,5 +1,5 @@
 -- The slots among the values of a spectrum.
-use Rattle.std.proofs.Common.{◌≡◌, ℕ, ◌+◌, ◌*◌, ◌-◌, ◌/◌, ◌<◌, ◌≤◌, ◌^◌, ◌≢◌, refl, sym, ap, subst, ◌∙◌, ⊎_elim, arith, pos, ◌*ℤ◌, List, [], ◌∷◌, ◌++◌, length, get_or, set}
+use Rattle.std.proofs.Common.{◌≡◌, ℕ, ◌+◌, ◌*◌, ◌-◌, ◌/◌, ◌<◌, ◌≤◌, ◌^◌, ◌≢◌, sym, ap, subst, ◌∙◌, ⊎_elim, arith, pos, ◌*ℤ◌, List, [], ◌∷◌, ◌++◌, length, get_or, set}
 use Rattle.std.proofs.lemmas.Bool.{cases_eq}
 use Rattle.std.proofs.lemmas.List.{length-set, get_or-set_other, get_or-set_same}
 use Rattle.std.proofs.lemmas.Grind.{elements}
@@ -123,6 +123,3 @@ more_places n i x xs h e = record {
 
     front : (xs : List ℕ) (x p : ℕ) → p < length xs → get_or (xs ++ x ∷ []) p 0 ≡ get_or xs p 0
     front xs x p l = grind (arith, elements)
-
-pub no_places : (n : ℕ) → ArePlaces n 0 []
-no_places n = record { len = refl; each = λ l p size u. absurd (omega arith) }

@@ -1,5 +1,5 @@
 -- Payloads so far.
-use Rattle.std.proofs.Common.{◌≡◌, ℕ, ◌+◌, ◌*◌, ◌%◌, ◌/◌, ◌<◌, ◌≤◌, ◌≢◌, sym, ap, subst, ◌∙◌, ⊎_elim, arith, List, [], ◌∷◌, ◌++◌, length, get_or}
+use Rattle.std.proofs.Common.{◌≡◌, ℕ, ◌+◌, ◌*◌, ◌%◌, ◌/◌, ◌<◌, ◌≢◌, sym, subst, ◌∙◌, ⊎_elim, arith, List, [], ◌∷◌, ◌++◌, length, get_or}
 use Rattle.std.proofs.lemmas.Grind.{elements}
 use Rattle.std.proofs.lemmas.List.{ext_get_or}
 use Rattle.std.proofs.lemmas.Bool.{cases_lt}
@@ -9,9 +9,6 @@ pub record IsPayloadSoFar (i : ℕ) (bytes coeffs : List ℕ) : Type 0 where
   pub each : (k : ℕ) → k < i → get_or coeffs k 0 ≡ 256 * get_or bytes (2 * k) 0 + get_or bytes (2 * k + 1) 0
   pub before : (k : ℕ) → k < i → get_or coeffs k 0 ≢ 65536
 
-pub none_spelled : (bytes coeffs : List ℕ) → IsPayloadSoFar 0 bytes coeffs
-none_spelled bytes coeffs = record { each = λ k l. absurd (omega arith); before = λ k l. absurd (omega arith) }
-
 front : (i a b j : ℕ) (bytes : List ℕ) → length bytes ≡ 2 * i → j < 2 * i → get_or ((bytes ++ a ∷ []) ++ b ∷ []) j 0 ≡ get_or bytes j 0
 front i a b j bytes e l = grind (arith, elements)
 
@@ -20,25 +17,6 @@ high i a b bytes e = grind (arith, elements)
 
 low : (i a b : ℕ) (bytes : List ℕ) → length bytes ≡ 2 * i → get_or ((bytes ++ a ∷ []) ++ b ∷ []) (2 * i + 1) 0 ≡ b
 low i a b bytes e = grind (arith, elements)
-
--- two more bytes of a coefficient
-pub two_spelled : (i c a b : ℕ) (bytes coeffs : List ℕ) → length bytes ≡ 2 * i → IsPayloadSoFar i bytes coeffs → c ≡ get_or coeffs i 0 → c ≢ 65536 → a ≡ c / 256 → b ≡ c % 256
-    → IsPayloadSoFar (i + 1) ((bytes ++ a ∷ []) ++ b ∷ []) coeffs
-two_spelled i c a b bytes coeffs e h g ne f w = record {
-  each = λ k l. ⊎_elim
-      (λ u. h.each k u ∙ (λ t. 256 * sym (front i a b (2 * k) bytes e (omega arith)) t + sym (front i a b (2 * k + 1) bytes e (omega arith)) t))
-      (λ u.
-      let same : k ≡ i = omega arith in
-      ap (λ j. get_or coeffs j 0) same ∙ sym g ∙ whole ∙ (λ t. 256 * sym (ap (λ j. get_or ((bytes ++ a ∷ []) ++ b ∷ []) (2 * j) 0) same ∙ high i a b bytes e) t + sym (ap (λ j. get_or ((bytes ++ a ∷ []) ++ b ∷ []) (2 * j + 1) 0) same ∙ low i a b bytes e) t))
-      (cases_lt k i);
-  before = λ k l. ⊎_elim (λ u. h.before k u) (λ u q. ne (g ∙ ap (λ j. get_or coeffs j 0) (sym (same_place k u l)) ∙ q)) (cases_lt k i);
-}
-  where
-    same_place : (k : ℕ) → i ≤ k → k < i + 1 → k ≡ i
-    same_place k u l = omega arith
-
-    whole : c ≡ 256 * a + b
-    whole = omega arith
 
 -- two bytes are known from their coefficient
 two_bytes : (c a b x y : ℕ) → c ≡ 256 * a + b → c ≡ 256 * x + y → b < 256 → y < 256 → (a ≡ x) × (b ≡ y)

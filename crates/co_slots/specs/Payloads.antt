@@ -6,7 +6,8 @@ use Rattle.co_math.specs.Coefficients.{AreBelow}
 pub record IsPayload (bytes coeffs : List ℕ) : Type 0 where
   pub len : length bytes ≡ 2 * length coeffs
   pub below : AreBelow 256 bytes
-  pub each : (k : ℕ) → k < length coeffs → slice_index coeffs k ≡ 256 * slice_index bytes (2 * k) + slice_index bytes (2 * k + 1)
+  pub each : (k : ℕ) → k < length coeffs → slice_index coeffs k
+      ≡ 256 * slice_index bytes (2 * k) + slice_index bytes (2 * k + 1)
 
 -- the first coefficient that is no pair of bytes
 pub record IsFirstNoByte (coeffs : List ℕ) (place : ℕ) : Type 0 where

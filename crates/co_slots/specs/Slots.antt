@@ -11,11 +11,14 @@ use Rattle.co_ring.specs.Tables.{Shape}
 
 -- the exponent of slot p: 3^p in the first row, -3^(p - n/2) in the second
 unfoldable pub exponent_of : ℕ → ℕ → ℕ
-exponent_of n p = if nat_lt p (n / 2) then residue (2 * n) (power (pos 3) p) else residue (2 * n) (neg_ℤ (power (pos 3) (p - n / 2)))
+exponent_of n p = if nat_lt p (n / 2) then residue (2 * n) (power (pos 3) p)
+    else residue (2 * n) (neg_ℤ (power (pos 3) (p - n / 2)))
 
--- slot p of a polynomial modulo X^n + 1, which is (0, p) or (1, p - n/2): its value at the power of the root that belongs to p
+-- slot p of a polynomial modulo X^n + 1, which is (0, p) or (1, p - n/2): its value at the power of
+-- the root that belongs to p
 abbrev pub slot_of : ℕ → (ℤ → ℤ) → ℕ → ℕ
-slot_of n f p = residue plain_modulus (value_at n f (power (pos (root plain_modulus n)) (exponent_of n p)))
+slot_of n f p =
+    residue plain_modulus (value_at n f (power (pos (root plain_modulus n)) (exponent_of n p)))
 
 -- slot p of the polynomial with these coefficients
 unfoldable pub slot : List ℕ → ℕ → ℕ
@@ -26,7 +29,8 @@ pub record AreSlots (coeffs slots : List ℕ) : Type 0 where
   pub len : length slots ≡ length coeffs
   pub each : (p : ℕ) → p < length coeffs → slice_index slots p ≡ slot coeffs p
 
--- the places of the first slots among the leaves of the transform, which has value k at k's bits in the opposite order
+-- the places of the first slots among the leaves of the transform, which has value k at k's bits in
+-- the opposite order
 pub record ArePlaces (n count : ℕ) (xs : List ℕ) : Type 0 where
   pub len : length xs ≡ count
   pub each : (l p : ℕ) → n ≡ 2 ^ l → p < count → slice_index xs p ≡ place l (exponent_of n p / 2)

@@ -8,9 +8,8 @@ ghost use Rattle.co_math.specs.Coefficients.{AreBelow, IsDegree};
 ghost use Rattle.co_ring.specs.Polynomials.{degree_of};
 ghost use Rattle.co_slots.specs.Slots.{exponent_of, AreScattered, AreSlots, ArePlaces};
 
-use co_ring::numbers::{negate, power};
-use co_ring::{Degree, Modulus, Poly, Spectrum, Table, forward, inverse};
-use co_transform::tables::reversed;
+use co_ring::{Degree, Modulus, Poly, Spectrum, Table, forward, inverse, negate, power};
+use co_transform::reversed;
 use std::alloc::{AllocError, Global};
 use std::marker::Model;
 

@@ -1,25 +1,24 @@
 -- Products, sums and zeros of ciphertexts, by their values.
-use Rattle.std.proofs.Common.{◌≡◌, ℕ, ◌+◌, ◌<◌, sym, ap, subst, ◌∙◌, arith, ℤ, pos, ◌+ℤ◌, List, length}
+use Rattle.std.proofs.Common.{◌≡◌, ℕ, ◌<◌, sym, ap, subst, ◌∙◌, arith, ℤ, pos, ◌+ℤ◌, List, [], ◌∷◌, length}
 use Rattle.co_math.specs.Parameters.{q}
-use Rattle.co_math.specs.Residues.{Congruent}
 use Rattle.co_math.specs.Coefficients.{IsDegree, coefficients, residues_of}
 use Rattle.co_math.specs.Polynomials.{IsWrapped, plus, product, unit}
 use Rattle.co_math.proofs.Integers.{linear}
 use Rattle.co_math.proofs.Degrees.{degree_positive}
 use Rattle.co_math.proofs.Done.{own_residues}
-use Rattle.co_math.proofs.Residues.{cong_from, cong-add, cong-refl, cong-sym, cong-trans}
+use Rattle.co_math.proofs.Residues.{cong-add, cong-refl, cong-sym}
 use Rattle.co_math.proofs.Residue_lists.{residues_of-is}
 use Rattle.co_math.proofs.Spreads.{product-unit}
 use Rattle.co_rns.specs.Pairs.{IsWhole}
 use Rattle.co_rns.specs.Residue_pairs.{centred_coefficients}
-use Rattle.co_rns.specs.Spectra.{PairSums, PairValues, IsNoPairSum, IsPairSumOf, IsPairSumWith, IsReducedPair, IsSpectrumOf}
+use Rattle.co_rns.specs.Spectra.{PairSums, PairValues, IsNoPairSum, IsPairSumOf, IsPairSumWith, IsPairSumWithAll, IsReducedPair, IsSpectrumOf}
 use Rattle.co_rns.proofs.Centring.{centred_IsWrapped}
-use Rattle.co_rns.proofs.Spectra_agree.{gathered_none, gathered_with, gathered_reduced}
+use Rattle.co_rns.proofs.Spectra_agree.{gathered_none, gathered_with, gathered_reduced, with_pair, with_pair-is, first_of_pairs, last_of_pairs}
 use Rattle.co_bfv.specs.Ciphertexts.{Ciphertext, ciphertext_degree, ciphertext_sum, plain_product, zero_ciphertext}
 use Rattle.co_bfv.specs.Totals.{no_ciphertext, IsOfDegree}
 use Rattle.co_bfv.proofs.Combined.{c0-IsWrapped, c1-IsWrapped}
 use Rattle.co_bfv.proofs.Totals.{residues_agree_low, sum-parts, ciphertext_sum-IsOfDegree, ciphertext_total-zero, ciphertext_total-IsOfDegree}
-use Rattle.co_spectra.specs.Sums.{CipherSums, IsCipherSumOf}
+use Rattle.co_spectra.specs.Sums.{CipherSums, IsCipherSumOf, four_added}
 use Rattle.co_spectra.specs.Values.{CipherValues, AreCipherValues, ArePlainValues}
 use Rattle.co_spectra.proofs.Agreeing.{pair_sum_low}
 
@@ -109,6 +108,28 @@ product_are s c₀ c₁ turned plain c a p d h u v x y =
     (part_product n (coefficients c.c0) (coefficients a.c0) (centred_coefficients p) s.c0 c₀ turned.c0 plain d w h.c0 u.c0 v.values x))
     (subst (λ (z : Ciphertext). IsPairSumOf n (plus (coefficients c.c1) (coefficients z.c1)) c₁) (sym (product-parts n a p u.degree))
     (part_product n (coefficients c.c1) (coefficients a.c1) (centred_coefficients p) s.c1 c₁ turned.c1 plain d w h.c1 u.c1 v.values y))
+
+-- one product more, as sums
+abbrev with_cipher : CipherSums → CipherValues → PairValues → CipherSums
+with_cipher s turned plain = record { degree = s.degree; c0 = with_pair s.c0 turned.c0 plain; c1 = with_pair s.c1 turned.c1 plain }
+
+next_are : (s : CipherSums) (turned : CipherValues) (plain : PairValues) (c a : Ciphertext) (p : List ℕ) → IsDegree s.degree → IsCipherSumOf c s → AreCipherValues s.degree a turned → ArePlainValues s.degree p plain
+    → IsCipherSumOf (ciphertext_sum c (plain_product a p)) (with_cipher s turned plain)
+next_are s turned plain c a p d h u v = product_are s (with_pair s.c0 turned.c0 plain) (with_pair s.c1 turned.c1 plain) turned plain c a p d h u v (with_pair-is s.c0 turned.c0 plain) (with_pair-is s.c1 turned.c1 plain)
+
+-- four products that were added in one pass
+pub four_are : (s : CipherSums) (c₀ c₁ : PairSums) (t₁ t₂ t₃ t₄ : CipherValues) (v₁ v₂ v₃ v₄ : PairValues) (c a₁ a₂ a₃ a₄ : Ciphertext) (p₁ p₂ p₃ p₄ : List ℕ) → IsDegree s.degree → IsCipherSumOf c s
+    → AreCipherValues s.degree a₁ t₁ → ArePlainValues s.degree p₁ v₁ → AreCipherValues s.degree a₂ t₂ → ArePlainValues s.degree p₂ v₂
+    → AreCipherValues s.degree a₃ t₃ → ArePlainValues s.degree p₃ v₃ → AreCipherValues s.degree a₄ t₄ → ArePlainValues s.degree p₄ v₄
+    → IsPairSumWithAll s.c0 ((t₁.c0, v₁) ∷ (t₂.c0, v₂) ∷ (t₃.c0, v₃) ∷ (t₄.c0, v₄) ∷ []) c₀ → IsPairSumWithAll s.c1 ((t₁.c1, v₁) ∷ (t₂.c1, v₂) ∷ (t₃.c1, v₃) ∷ (t₄.c1, v₄) ∷ []) c₁
+    → IsCipherSumOf (four_added c a₁ a₂ a₃ a₄ p₁ p₂ p₃ p₄) (record { degree = s.degree; c0 = c₀; c1 = c₁ })
+four_are s c₀ c₁ t₁ t₂ t₃ t₄ v₁ v₂ v₃ v₄ c a₁ a₂ a₃ a₄ p₁ p₂ p₃ p₄ d h x₁ y₁ x₂ y₂ x₃ y₃ x₄ y₄ f g =
+    let s₁ = with_cipher s t₁ v₁ in
+    let s₂ = with_cipher s₁ t₂ v₂ in
+    let s₃ = with_cipher s₂ t₃ v₃ in
+    product_are s₃ c₀ c₁ t₄ v₄ _ a₄ p₄ d (next_are s₂ t₃ v₃ _ a₃ p₃ d (next_are s₁ t₂ v₂ _ a₂ p₂ d (next_are s t₁ v₁ c a₁ p₁ d h x₁ y₁) x₂ y₂) x₃ y₃) x₄ y₄
+    (last_of_pairs s₃.c0 t₄.c0 v₄ c₀ (first_of_pairs s₂.c0 t₃.c0 v₃ c₀ _ (first_of_pairs s₁.c0 t₂.c0 v₂ c₀ _ (first_of_pairs s.c0 t₁.c0 v₁ c₀ _ f))))
+    (last_of_pairs s₃.c1 t₄.c1 v₄ c₁ (first_of_pairs s₂.c1 t₃.c1 v₃ c₁ _ (first_of_pairs s₁.c1 t₂.c1 v₂ c₁ _ (first_of_pairs s.c1 t₁.c1 v₁ c₁ _ g))))
 
 -- the ciphertext that a sum is
 pub cipher_is : (s : CipherSums) (c r : Ciphertext) → IsCipherSumOf c s → r.c0 ≡ residues_of q s.degree (coefficients c.c0) → r.c1 ≡ residues_of q s.degree (coefficients c.c1) → r ≡ c

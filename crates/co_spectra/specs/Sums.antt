@@ -1,9 +1,9 @@
 -- Sums of products of ciphertexts and plain polynomials, by their values.
-use Rattle.std.specs.Prelude.{ℕ, ◌≡◌, ◌≤◌, length}
+use Rattle.std.specs.Prelude.{ℕ, List, ◌≡◌, ◌≤◌, length}
 use Rattle.co_math.specs.Coefficients.{IsDegree, coefficients}
 use Rattle.co_ring.specs.Product_sums.{most_products}
 use Rattle.co_rns.specs.Spectra.{PairSums, IsPairSumOf}
-use Rattle.co_bfv.specs.Ciphertexts.{Ciphertext}
+use Rattle.co_bfv.specs.Ciphertexts.{Ciphertext, ciphertext_sum, plain_product}
 use Rattle.co_bfv.specs.Totals.{IsOfDegree}
 
 -- sums of n values for both parts, that are not reduced
@@ -26,3 +26,8 @@ pub record AreKept (s : CipherSums) (count : ℕ) : Type 0 where
   pub c0_count : s.c0.count ≡ count
   pub c1_count : s.c1.count ≡ count
   pub few : count ≤ most_products
+
+-- four products of ciphertexts and plain polynomials added to a ciphertext, one after another
+abbrev pub four_added : Ciphertext → Ciphertext → Ciphertext → Ciphertext → Ciphertext → List ℕ → List ℕ → List ℕ → List ℕ → Ciphertext
+four_added c a₁ a₂ a₃ a₄ p₁ p₂ p₃ p₄ =
+    ciphertext_sum (ciphertext_sum (ciphertext_sum (ciphertext_sum c (plain_product a₁ p₁)) (plain_product a₂ p₂)) (plain_product a₃ p₃)) (plain_product a₄ p₄)

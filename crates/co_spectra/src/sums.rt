@@ -1,19 +1,18 @@
-// Sums of products of ciphertexts and plain polynomials.
+//! Sums of products of ciphertexts and plain polynomials.
 
-ghost use Rattle.std.specs.Prelude.{ℕ, ℤ, List, ◌≡◌, ◌+◌, ◌<◌, length, IfOk};
-ghost use Rattle.co_math.specs.Parameters.{q};
-ghost use Rattle.co_math.specs.Coefficients.{IsDegree, residues_of};
+ghost use Rattle.std.specs.Prelude.{ℕ, ℤ, List, ◌≡◌, ◌+◌, ◌<◌, ◌≤◌, length, IfOk};
+ghost use Rattle.co_math.specs.Coefficients.{IsDegree};
 ghost use Rattle.co_math.specs.Polynomials.{IsWrapped, plus, unit};
 ghost use Rattle.co_ring.specs.Product_sums.{most_products};
 ghost use Rattle.co_rns.specs.Spectra.{IsPairSumOf, IsSpectrumOf, spectrum_degree};
 ghost use Rattle.co_bfv.specs.Ciphertexts.{Ciphertext, ciphertext_degree, ciphertext_sum, plain_product, zero_ciphertext};
 ghost use Rattle.co_spectra.specs.Values.{AreCipherValues, AreOfDegree, ArePlainValues};
-ghost use Rattle.co_spectra.specs.Sums.{IsCipherSumOf};
+ghost use Rattle.co_spectra.specs.Sums.{IsCipherSumOf, four_added};
 
 use crate::values::CipherSpectrum;
 use co_bfv::Cipher;
 use co_ring::{Degree, MOST_PRODUCTS};
-use co_rns::{Pair, PairSpectrum, PairSum, Tables, from_spectrum, small_to_spectrum};
+use co_rns::{PairSpectrum, PairSum, Tables, small_to_spectrum};
 use std::alloc::{AllocError, Global};
 use std::marker::Model;
 
@@ -54,7 +53,9 @@ fn reduce(sum: &mut PairSum, room: &mut PairSpectrum, one: &PairSpectrum)
     requires degree { IsDegree (length sum.old.first) }
     requires room_degree { spectrum_degree room.old ≡ length sum.old.first }
     requires one_is { IsSpectrumOf (length sum.old.first) (unit (length sum.old.first)) one.now }
-    ensures same { (f : ℤ → ℤ) → IsWrapped (length sum.old.first) f → IsPairSumOf (length sum.old.first) f sum.old → IsPairSumOf (length sum.old.first) f sum.new }
+    ensures same { (f : ℤ → ℤ) → IsWrapped (length sum.old.first) f
+        → IsPairSumOf (length sum.old.first) f sum.old
+        → IsPairSumOf (length sum.old.first) f sum.new }
     ensures count { sum.new.count ≡ 1 }
     ensures degree { length sum.new.first ≡ length sum.old.first }
     ensures room_degree { spectrum_degree room.new ≡ length sum.old.first }
@@ -71,7 +72,9 @@ fn add_sum(sum: &mut PairSum, other: &PairSum, room: &mut PairSpectrum, one: &Pa
     requires other_degree { length other.now.first ≡ length sum.old.first }
     requires room_degree { spectrum_degree room.old ≡ length sum.old.first }
     requires one_is { IsSpectrumOf (length sum.old.first) (unit (length sum.old.first)) one.now }
-    ensures sum { (f g : ℤ → ℤ) → IsWrapped (length sum.old.first) g → IsPairSumOf (length sum.old.first) f sum.old → IsPairSumOf (length sum.old.first) g other.now
+    ensures sum { (f g : ℤ → ℤ) → IsWrapped (length sum.old.first) g
+        → IsPairSumOf (length sum.old.first) f sum.old
+        → IsPairSumOf (length sum.old.first) g other.now
         → IsPairSumOf (length sum.old.first) (plus f g) sum.new }
     ensures count { sum.new.count ≡ sum.old.count + 1 }
     ensures degree { length sum.new.first ≡ length sum.old.first }
@@ -79,25 +82,6 @@ fn add_sum(sum: &mut PairSum, other: &PairSum, room: &mut PairSpectrum, one: &Pa
 {
     other.reduce(room);
     sum.add_product(one, room);
-}
-
-/// The polynomial whose values a sum has.
-fn polynomial(
-    alloc: Global,
-    tables: &Tables,
-    sum: &PairSum,
-    room: &mut PairSpectrum,
-) -> Result<Pair, AllocError>
-    requires sum_degree { length sum.now.first ≡ tables.now }
-    requires room_degree { spectrum_degree room.old ≡ tables.now }
-    ensures value { IfOk result (λ p. (f : ℤ → ℤ) → IsPairSumOf tables.now f sum.now → p ≡ residues_of q tables.now f) }
-    ensures degree { IfOk result (λ p. length p ≡ tables.now) }
-    ensures room_degree { spectrum_degree room.new ≡ tables.now }
-{
-    sum.reduce(room);
-    let mut poly = Pair::zero(alloc, tables.degree())?;
-    from_spectrum(tables, room, &mut poly);
-    Ok(poly)
 }
 
 impl CipherSum {
@@ -121,7 +105,9 @@ impl CipherSum {
         requires few { self.old.c0.count < most_products }
         requires turned_degree { AreOfDegree self.old.degree turned.now }
         requires plain_degree { spectrum_degree plain.now ≡ self.old.degree }
-        ensures product { (c a : Ciphertext) (p : List ℕ) → IsCipherSumOf c self.old → AreCipherValues self.old.degree a turned.now → ArePlainValues self.old.degree p plain.now
+        ensures product { (c a : Ciphertext) (p : List ℕ) → IsCipherSumOf c self.old
+            → AreCipherValues self.old.degree a turned.now
+            → ArePlainValues self.old.degree p plain.now
             → IsCipherSumOf (ciphertext_sum c (plain_product a p)) self.new }
         ensures degree { self.new.degree ≡ self.old.degree }
         ensures count { self.new.c0.count ≡ self.old.c0.count + 1 }
@@ -131,7 +117,48 @@ impl CipherSum {
         self.count += 1;
     }
 
-    /// Reduces the sum where it takes no product more. The room is scratch, `one` has the values of 1.
+    /// Adds four products, each of a ciphertext and the plain polynomial after it, in one pass.
+    pub fn add_four(
+        &mut self,
+        a: &CipherSpectrum,
+        b: &PairSpectrum,
+        c: &CipherSpectrum,
+        d: &PairSpectrum,
+        e: &CipherSpectrum,
+        f: &PairSpectrum,
+        g: &CipherSpectrum,
+        h: &PairSpectrum,
+    )
+        requires few { self.old.c0.count + 4 ≤ most_products }
+        requires a_degree { AreOfDegree self.old.degree a.now }
+        requires b_degree { spectrum_degree b.now ≡ self.old.degree }
+        requires c_degree { AreOfDegree self.old.degree c.now }
+        requires d_degree { spectrum_degree d.now ≡ self.old.degree }
+        requires e_degree { AreOfDegree self.old.degree e.now }
+        requires f_degree { spectrum_degree f.now ≡ self.old.degree }
+        requires g_degree { AreOfDegree self.old.degree g.now }
+        requires h_degree { spectrum_degree h.now ≡ self.old.degree }
+        ensures products { (k k1 k2 k3 k4 : Ciphertext) (p1 p2 p3 p4 : List ℕ)
+            → IsCipherSumOf k self.old
+            → AreCipherValues self.old.degree k1 a.now
+            → ArePlainValues self.old.degree p1 b.now
+            → AreCipherValues self.old.degree k2 c.now
+            → ArePlainValues self.old.degree p2 d.now
+            → AreCipherValues self.old.degree k3 e.now
+            → ArePlainValues self.old.degree p3 f.now
+            → AreCipherValues self.old.degree k4 g.now
+            → ArePlainValues self.old.degree p4 h.now
+            → IsCipherSumOf (four_added k k1 k2 k3 k4 p1 p2 p3 p4) self.new }
+        ensures degree { self.new.degree ≡ self.old.degree }
+        ensures count { self.new.c0.count ≡ self.old.c0.count + 4 }
+    {
+        self.c0.add_four(&a.c0, b, &c.c0, d, &e.c0, f, &g.c0, h);
+        self.c1.add_four(&a.c1, b, &c.c1, d, &e.c1, f, &g.c1, h);
+        self.count += 4;
+    }
+
+    /// Reduces the sum where it takes no product more. The room is scratch, `one` has the values of
+    /// 1.
     pub fn make_room(&mut self, room: &mut PairSpectrum, one: &PairSpectrum)
         requires room_degree { spectrum_degree room.old ≡ self.old.degree }
         requires one_is { IsSpectrumOf self.old.degree (unit self.old.degree) one.now }
@@ -154,7 +181,8 @@ impl CipherSum {
         requires one_degree { other.now.degree ≡ self.old.degree }
         requires room_degree { spectrum_degree room.old ≡ self.old.degree }
         requires one_is { IsSpectrumOf self.old.degree (unit self.old.degree) one.now }
-        ensures sum { (c d : Ciphertext) → IsCipherSumOf c self.old → IsCipherSumOf d other.now → IsCipherSumOf (ciphertext_sum c d) self.new }
+        ensures sum { (c d : Ciphertext) → IsCipherSumOf c self.old → IsCipherSumOf d other.now
+            → IsCipherSumOf (ciphertext_sum c d) self.new }
         ensures degree { self.new.degree ≡ self.old.degree }
         ensures room_degree { spectrum_degree room.new ≡ self.old.degree }
     {
@@ -170,8 +198,8 @@ impl CipherSum {
         ensures degree { IfOk result (λ r. ciphertext_degree r ≡ self.now.degree) }
     {
         let mut room = PairSpectrum::zero(alloc, tables.degree())?;
-        let c0 = polynomial(alloc, tables, &self.c0, &mut room)?;
-        let c1 = polynomial(alloc, tables, &self.c1, &mut room)?;
+        let c0 = self.c0.polynomial(alloc, tables, &mut room)?;
+        let c1 = self.c1.polynomial(alloc, tables, &mut room)?;
         Ok(Cipher::from_parts(c0, c1))
     }
 }

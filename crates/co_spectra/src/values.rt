@@ -1,4 +1,4 @@
-// The values of ciphertexts and of plain polynomials.
+//! The values of ciphertexts and of plain polynomials.
 
 ghost use Rattle.std.specs.Prelude.{◌≡◌, IfOk};
 ghost use Rattle.co_ring.specs.Polynomials.{degree_of};

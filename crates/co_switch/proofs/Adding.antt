@@ -1,5 +1,5 @@
 -- The steps of a switch.
-use Rattle.std.proofs.Common.{◌≡◌, ℕ, ◌+◌, ◌<◌, sym, ap, subst, ◌∙◌, arith, ℤ, pos, ◌+ℤ◌, List, length, get_or, add-one}
+use Rattle.std.proofs.Common.{◌≡◌, ℕ, ◌+◌, ◌<◌, refl, sym, ap, subst, ◌∙◌, arith, ℤ, pos, ◌+ℤ◌, List, [], ◌∷◌, length, get_or, add-one}
 use Rattle.co_math.specs.Parameters.{q, digit_base, digit_count}
 use Rattle.co_math.specs.Residues.{Congruent}
 use Rattle.co_math.specs.Sums.{total}
@@ -15,8 +15,8 @@ use Rattle.co_math.proofs.Degrees.{degree_positive}
 use Rattle.co_math.proofs.Residue_lists.{residues_of-is, length-residues_of, residues_of-same, residues_of-at}
 use Rattle.co_bfv.specs.Ciphertexts.{Ciphertext, IsCiphertext, ciphertext_degree}
 use Rattle.co_switch.specs.Keys.{Key, AreSpectra, part}
-use Rattle.co_rns.specs.Spectra.{PairValues, PairSums, IsSpectrumOf, IsNoPairSum, IsPairSumWith, IsPairSumOf}
-use Rattle.co_rns.proofs.Spectra_agree.{gathered_none, gathered_with}
+use Rattle.co_rns.specs.Spectra.{PairValues, PairSums, IsSpectrumOf, IsNoPairSum, IsPairSumWith, IsPairSumWithAll, IsPairSumOf}
+use Rattle.co_rns.proofs.Spectra_agree.{gathered_none, gathered_with, with_pair, with_pair-is, first_of_pairs, last_of_pairs}
 use Rattle.co_switch.specs.Switches.{digit_polynomial, digit_sum, automorphism, switched}
 use Rattle.co_switch.proofs.Digitwise.{length-digit_polynomial, digit-at}
 
@@ -67,6 +67,24 @@ gathered_more n i xs values old new digit key d whole e l h v is s = record {
   counted = s.one_more ∙ ap (λ m. m + 1) h.counted;
   len = let f = s.first_sums in f.len ∙ h.len;
 }
+
+-- three digits in one pass
+pub gathered_three : (n i : ℕ) (xs : List ℕ) (values : List PairValues) (old new : PairSums) (low middle high d : PairValues) → IsDegree n → length xs ≡ n → i + 2 < digit_count → AreGathered n i xs values old
+    → IsSpectrumOf n (coefficients (digit_polynomial i xs)) low → IsSpectrumOf n (coefficients (digit_polynomial (i + 1) xs)) middle → IsSpectrumOf n (coefficients (digit_polynomial (i + 2) xs)) high
+    → IsPairSumWithAll old ((low, get_or values i d) ∷ (middle, get_or values (i + 1) d) ∷ (high, get_or values (i + 2) d) ∷ []) new → AreGathered n (i + 3) xs values new
+gathered_three n i xs values old new low middle high d whole e l h u v w s =
+    let a = get_or values i d in
+    let b = get_or values (i + 1) d in
+    let c = get_or values (i + 2) d in
+    let one = with_pair old low a in
+    let two = with_pair one middle b in
+    let up : i + 1 + 1 ≡ i + 2 = omega arith in
+    let end : i + 2 + 1 ≡ i + 3 = omega arith in
+    let first : AreGathered n (i + 1) xs values one = gathered_more n i xs values old one low a d whole e (omega arith) h u refl (with_pair-is old low a) in
+    let second : AreGathered n (i + 1 + 1) xs values two = gathered_more n (i + 1) xs values one two middle b d whole e (omega arith) first v refl (with_pair-is one middle b) in
+    subst (λ (j : ℕ). AreGathered n j xs values new) end
+    (gathered_more n (i + 2) xs values two new high c d whole e l (subst (λ (j : ℕ). AreGathered n j xs values two) up second) w refl
+    (last_of_pairs two high c new (first_of_pairs one middle b new _ (first_of_pairs old low a new _ s))))
 
 -- all digits
 pub gathered_all : (n i : ℕ) (xs : List ℕ) (values : List PairValues) (s : PairSums) (ks : List (List ℕ)) → AreGathered n i xs values s → i ≡ digit_count → AreSpectra n ks values → IsPairSumOf n (digit_sum xs ks) s

@@ -1,4 +1,5 @@
--- Keys drawn from a stream of words: each a function from the stream to the value and the rest of the stream.
+-- Keys drawn from a stream of words: each a function from the stream to the value and the rest of
+-- the stream.
 use Rattle.std.specs.Prelude.{ℕ, ℤ, zero, suc, pos, ◌/◌, ◌^◌, List, [], ◌∷◌, ◌++◌, length}
 use Rattle.rand_core.specs.Stream.{Stream}
 use Rattle.co_math.specs.Parameters.{q, digit_base, digit_count}
@@ -8,10 +9,12 @@ use Rattle.co_math.specs.Logarithms.{log2_up}
 use Rattle.co_bfv.specs.Draws.{uniform_draw, error_draw}
 use Rattle.co_switch.specs.Keys.{Key, Keys, rotation_element, expansion_element}
 
--- W^j * s(X^g), hidden by the uniform polynomial a and the error e: e - a * s + W^j * s(X^g) modulo q
+-- W^j * s(X^g), hidden by the uniform polynomial a and the error e: e - a * s + W^j * s(X^g) modulo
+-- q
 unfoldable pub hidden : List ℤ → ℕ → ℕ → List ℕ → List ℤ → List ℕ
 hidden secret g j a e = residues_of q (length secret)
-    (plus (minus (signed_coefficients e) (product (length secret) (coefficients a) (signed_coefficients secret)))
+    (plus (minus (signed_coefficients e) (product (length secret) (coefficients a)
+    (signed_coefficients secret)))
     (scaled (pos (digit_base ^ j)) (substitution (length secret) g (signed_coefficients secret))))
 
 -- the pairs of the first digits of the key for g: for each digit first a, then e
@@ -20,8 +23,14 @@ pairs_draw secret g zero s = (record { element = g; k0 = []; k1 = [] }, s)
 pairs_draw secret g (suc j) s =
     let before = pairs_draw secret g j s in
     let a = uniform_draw (length secret) before.1 in
-    let e = error_draw (length secret) a.1 in
-    (record { element = g; k0 = before.0.k0 ++ hidden secret g j a.0 e.0 ∷ []; k1 = before.0.k1 ++ a.0 ∷ [] }, e.1)
+    let e = error_draw (length secret) a.1 in (
+      record {
+        element = g;
+        k0 = before.0.k0 ++ hidden secret g j a.0 e.0 ∷ [];
+        k1 = before.0.k1 ++ a.0 ∷ [];
+      },
+      e.1,
+    )
 
 -- the key for g
 unfoldable pub key_draw : List ℤ → ℕ → Stream → Key × Stream
@@ -38,6 +47,7 @@ keys_draw secret element (suc i) s =
 -- first log2(n / 2) rotation keys, then the expansion keys
 unfoldable pub key_set_draw : List ℤ → ℕ → Stream → Keys × Stream
 key_set_draw secret levels s =
-    let rotations = keys_draw secret (rotation_element (length secret)) (log2_up (length secret / 2)) s in
+    let rotations =
+    keys_draw secret (rotation_element (length secret)) (log2_up (length secret / 2)) s in
     let expansions = keys_draw secret (expansion_element (length secret)) levels rotations.1 in
     (record { rotations = rotations.0; expansions = expansions.0 }, expansions.1)

@@ -1,5 +1,6 @@
 -- Keys that switch a ciphertext from s(X^g) back to s, and sets of them.
--- Galois automorphisms and their keys: Gentry, Halevi and Smart, Fully Homomorphic Encryption with Polylog Overhead, 2012.
+-- Galois automorphisms and their keys: Gentry, Halevi and Smart, Fully Homomorphic Encryption with
+-- Polylog Overhead, 2012.
 use Rattle.std.specs.Prelude.{ℕ, ℤ, pos, ◌+◌, ◌*◌, ◌/◌, ◌%◌, ◌^◌, ◌-ℤ◌, ◌*ℤ◌, ◌≡◌, ◌<◌, ◌≤◌, List, [], map, length, slice_index_or, All, unsigned_abs}
 use Rattle.std.specs.List.{range_with_len}
 use Rattle.co_math.specs.Parameters.{q, digit_base, digit_count, error_bound}
@@ -22,7 +23,8 @@ part polynomials j = slice_index_or polynomials j []
 abbrev pub key_degree : Key → ℕ
 key_degree key = length (part key.k0 0)
 
--- a pair of polynomials modulo q for each digit, all of one degree n; the element is odd and below 2n
+-- a pair of polynomials modulo q for each digit, all of one degree n; the element is odd and below
+-- 2n
 pub record IsKey (key : Key) : Type 0 where
   pub degree : IsDegree (key_degree key)
   pub k0_count : length key.k0 ≡ digit_count
@@ -35,15 +37,18 @@ pub record IsKey (key : Key) : Type 0 where
   pub within : key.element < 2 * key_degree key
 
 -- the values of six polynomials of n coefficients, one by one
-pub record AreSpectra (n : ℕ) (polynomials : List (List ℕ)) (values : List PairValues) : Type 0 where
+pub record AreSpectra (n : ℕ) (polynomials : List (List ℕ)) (values : List PairValues)
+    : Type 0 where
   pub count : length values ≡ digit_count
   pub degree : (j : ℕ) → j < digit_count → length (part polynomials j) ≡ n
-  pub each : (j : ℕ) (d : PairValues) → j < digit_count → IsSpectrumOf n (coefficients (part polynomials j)) (slice_index_or values j d)
+  pub each : (j : ℕ) (d : PairValues) → j < digit_count
+      → IsSpectrumOf n (coefficients (part polynomials j)) (slice_index_or values j d)
 
 -- six lists of values, each of n
 pub record AreOfDegree (n : ℕ) (values : List PairValues) : Type 0 where
   pub count : length values ≡ digit_count
-  pub degree : (j : ℕ) (d : PairValues) → j < digit_count → spectrum_degree (slice_index_or values j d) ≡ n
+  pub degree : (j : ℕ) (d : PairValues) → j < digit_count
+      → spectrum_degree (slice_index_or values j d) ≡ n
 
 -- what is kept with a key: tables of its degree, and the values of its polynomials
 pub record IsKept (key : Key) (tables : ℕ) (values0 values1 : List PairValues) : Type 0 where
@@ -55,7 +60,8 @@ pub record IsKept (key : Key) (tables : ℕ) (values0 values1 : List PairValues)
 -- each k0_j + k1_j * s - W^j * s(X^g), centred modulo q, has coefficients in -21..21
 pub record IsGoodKey (s : ℤ → ℤ) (key : Key) : Type 0 where
   pub within : (j : ℕ) → j < digit_count → (k : ℤ)
-      → unsigned_abs (centred q (phase (key_degree key) s (coefficients (part key.k0 j)) (coefficients (part key.k1 j)) k
+      → unsigned_abs (centred q (phase (key_degree key) s (coefficients (part key.k0 j))
+      (coefficients (part key.k1 j)) k
       -ℤ pos (digit_base ^ j) *ℤ substitution (key_degree key) key.element s k)) ≤ error_bound
 
 -- the keys of a client: for the rotations of slots, and for expansions
@@ -85,7 +91,8 @@ pub record AreKeysOf (n : ℕ) (element : ℕ → ℕ) (keys : List Key) : Type 
 pub record AreKeys (keys : Keys) : Type 0 where
   pub degree : IsDegree (keys_degree keys)
   pub rotations : AreKeysOf (keys_degree keys) (rotation_element (keys_degree keys)) keys.rotations
-  pub expansions : AreKeysOf (keys_degree keys) (expansion_element (keys_degree keys)) keys.expansions
+  pub expansions : AreKeysOf (keys_degree keys) (expansion_element (keys_degree keys))
+      keys.expansions
   pub few_expansions : length keys.expansions ≤ length keys.rotations + 1
 
 pub record AreGoodKeys (s : ℤ → ℤ) (keys : Keys) : Type 0 where

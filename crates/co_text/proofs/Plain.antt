@@ -1,14 +1,11 @@
 -- Characters that are no control characters of ASCII.
-use Rattle.std.proofs.Common.{◌≡◌, ℕ, ◌≤◌, true, refl, arith, List, ◌++◌, ◌∙◌}
+use Rattle.std.proofs.Common.{◌≡◌, ℕ, true, refl, arith, List, ◌++◌, ◌∙◌}
 use Rattle.std.specs.Prelude.{encode_utf8}
 use Rattle.std.specs.List.{list_all}
 use Rattle.std.proofs.Math.Utf8.{encode}
 use Rattle.std.proofs.lemmas.Bool.Decides.{nat_tests}
 use Rattle.std.proofs.lemmas.List.Folds.{list_all-append}
 use Rattle.co_text.specs.Titles.{without_control, is_plain}
-
-plain_high : (b : ℕ) → 128 ≤ b → is_plain b ≡ true
-plain_high b h = grind (arith, nat_tests)
 
 pub plain_byte : (c : ℕ) → is_plain (without_control c) ≡ true
 plain_byte c = grind (arith, nat_tests)

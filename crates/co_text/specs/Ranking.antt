@@ -16,7 +16,8 @@ hit_cmp a b = ordering_then (nat_cmp b.score a.score) (nat_cmp a.document b.docu
 abbrev pub scored : ℕ → List ℕ → List Ranked
 scored number [] = []
 scored number (s ∷ ss) =
-    if nat_lt 0 s then record { document = number; score = s } ∷ scored (number + 1) ss else scored (number + 1) ss
+    if nat_lt 0 s then record { document = number; score = s } ∷ scored (number + 1) ss
+    else scored (number + 1) ss
 
 -- the first so many of the documents of score at least 1, in the order of hits
 unfoldable pub ranking : ℕ → List ℕ → List Ranked
@@ -36,4 +37,5 @@ pub record IsRanking (most : ℕ) (scores : List ℕ) (hits : List Ranked) : Typ
   -- there are as many as there may be, or all of score at least 1
   pub count : length hits ≡ min most (count_by (nat_lt 0) scores)
   -- a document of score at least 1 that is left out comes after each
-  pub best : (r : Ranked) → IsScored scores r → list_any (λ h. h.document == r.document) hits ≡ false → All (λ h. hit_cmp h r ≡ Less) hits
+  pub best : (r : Ranked) → IsScored scores r → list_any (λ h. h.document == r.document) hits
+      ≡ false → All (λ h. hit_cmp h r ≡ Less) hits

@@ -13,21 +13,27 @@ ghost use Rattle.co_text.specs.declared.ranks.Ranked.{Ranked};
 /// The distinct terms of a list are its terms, each once.
 pub fn distinct_terms_stand_once()
     ensures once { (ts : List (List ℕ)) → IsDistinct bytes_eq (distinct ts) }
-    ensures same { (ts : List (List ℕ)) (t : List ℕ) → list_any (bytes_eq t) (distinct ts) ≡ list_any (bytes_eq t) ts }
+    ensures same { (ts : List (List ℕ)) (t : List ℕ) → list_any (bytes_eq t) (distinct ts)
+        ≡ list_any (bytes_eq t) ts }
     ensures few { (ts : List (List ℕ)) → length (distinct ts) ≤ length ts }
 {}
 
 /// The number of a term in a vocabulary is its only place, and a term without a number isn't there.
 pub fn a_number_is_a_place()
-    ensures known { (v : List (List ℕ)) (t : List ℕ) (i : ℕ) → number_of v t ≡ Some i → slice_get v i ≡ Some t }
-    ensures unknown { (v : List (List ℕ)) (t : List ℕ) → number_of v t ≡ None → list_any (bytes_eq t) v ≡ false }
-    ensures placed { (v : List (List ℕ)) (t : List ℕ) (i : ℕ) → IsStrictlySortedBy (slice_cmp nat_cmp) v → slice_get v i ≡ Some t → number_of v t ≡ Some i }
+    ensures known { (v : List (List ℕ)) (t : List ℕ) (i : ℕ) → number_of v t ≡ Some i
+        → slice_get v i ≡ Some t }
+    ensures unknown { (v : List (List ℕ)) (t : List ℕ) → number_of v t ≡ None
+        → list_any (bytes_eq t) v ≡ false }
+    ensures placed { (v : List (List ℕ)) (t : List ℕ) (i : ℕ)
+        → IsStrictlySortedBy (slice_cmp nat_cmp) v → slice_get v i ≡ Some t
+        → number_of v t ≡ Some i }
 {}
 
 /// The numbers of distinct terms are distinct places of the vocabulary, no more than there are
 /// terms.
 pub fn numbers_are_distinct()
-    ensures once { (v ts : List (List ℕ)) → IsDistinct bytes_eq ts → IsDistinct ◌==◌ (numbers_of v ts) }
+    ensures once { (v ts : List (List ℕ)) → IsDistinct bytes_eq ts
+        → IsDistinct ◌==◌ (numbers_of v ts) }
     ensures within { (v ts : List (List ℕ)) → All (λ n. n < length v) (numbers_of v ts) }
     ensures few { (v ts : List (List ℕ)) → length (numbers_of v ts) ≤ length ts }
 {}
@@ -36,5 +42,6 @@ pub fn numbers_are_distinct()
 /// first so many; and no other list has.
 pub fn one_ranking()
     ensures is { (most : ℕ) (scores : List ℕ) → IsRanking most scores (ranking most scores) }
-    ensures only { (most : ℕ) (scores : List ℕ) (hits : List Ranked) → IsRanking most scores hits → hits ≡ ranking most scores }
+    ensures only { (most : ℕ) (scores : List ℕ) (hits : List Ranked) → IsRanking most scores hits
+        → hits ≡ ranking most scores }
 {}

@@ -12,7 +12,9 @@ use std::collections::BTreeSet;
 /// A document and its score.
 #[derive(Clone, Copy, Debug, PartialEq, Eq)]
 pub struct Ranked {
+    /// The document's number.
     pub document: u32,
+    /// Its score, at least 1 where it is ranked.
     pub score: u32,
 }
 
@@ -22,7 +24,9 @@ type Best = BTreeSet<(Reverse<u32>, u32)>;
 // One document more, of which so many are kept.
 fn keep_best(best: &mut Best, most: usize, document: u32, score: u32) -> Result<(), AllocError>
     requires { length best.old.keys ≤ most }
-    ensures keys { OnOk result (best.new.keys ≡ take most (if nat_lt 0 score then insert_key key_cmp best.old.keys (record { 0 = score }, document) else best.old.keys)) }
+    ensures keys { OnOk result (best.new.keys ≡ take most (if nat_lt 0 score
+        then insert_key key_cmp best.old.keys (record { 0 = score }, document)
+        else best.old.keys)) }
     ensures few { OnOk result (length best.new.keys ≤ most) }
 {
     if score == 0 {

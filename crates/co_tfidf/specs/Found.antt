@@ -20,7 +20,8 @@ document_of documents (Some h) = text_or_none h.document (slice_get documents h.
 
 -- the pick-th of the hits
 abbrev pub picked : List Document → ℕ → List Hit → Option (ℕ × List ℕ)
-picked documents pick hits = if nat_eq pick 0 then None else document_of documents (slice_get hits (pick - 1))
+picked documents pick hits =
+    if nat_eq pick 0 then None else document_of documents (slice_get hits (pick - 1))
 
 -- the plain answer: for a vocabulary of at most `most` terms, at most so many hits, a query's terms
 -- and a pick

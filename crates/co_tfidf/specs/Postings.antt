@@ -18,12 +18,14 @@ counted (p ∷ q ∷ ps) document = p ∷ counted (q ∷ ps) document
 
 -- the posting of a document that has a term so often, if it has it
 abbrev pub posting : ℕ → ℕ → List Posting
-posting document count = if nat_lt 0 count then record { document = document; count = min count 63 } ∷ [] else []
+posting document count =
+    if nat_lt 0 count then record { document = document; count = min count 63 } ∷ [] else []
 
 -- the postings of a term in these documents, of which the first has this number
 abbrev pub postings : List ℕ → ℕ → List Document → List Posting
 postings w document [] = []
-postings w document (d ∷ ds) = posting document (term_frequency w (terms d.text)) ++ postings w (document + 1) ds
+postings w document (d ∷ ds) =
+    posting document (term_frequency w (terms d.text)) ++ postings w (document + 1) ds
 
 -- the last of the postings, where there is one
 abbrev pub last_posting : List Posting → Posting

@@ -7,7 +7,8 @@ use Rattle.co_tfidf.specs.Weight.{weight}
 
 -- the sum of a document's weights of those of the terms that are in the vocabulary
 abbrev pub score_of : ℕ → List Document → List (List ℕ) → Document → ℕ
-score_of most documents ws d = sum_by (λ w. if is_kept most documents w then weight documents w d else 0) ws
+score_of most documents ws d =
+    sum_by (λ w. if is_kept most documents w then weight documents w d else 0) ws
 
 -- the score of a document for a query: each distinct term counts once
 abbrev pub score : ℕ → List Document → List (List ℕ) → Document → ℕ

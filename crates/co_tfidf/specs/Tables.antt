@@ -15,7 +15,8 @@ abbrev pub shown : {Y : Type 0} → String Y × List Posting → List ℕ × Lis
 shown e = (string_bytes e.0, e.1)
 
 -- an entry that is ranked by how many documents have the term
-abbrev pub shown_ranked : {Y : Type 0} → (Reverse ℕ × String Y) × List Posting → (Reverse ℕ × List ℕ) × List Posting
+abbrev pub shown_ranked : {Y : Type 0} → (Reverse ℕ × String Y) × List Posting
+    → (Reverse ℕ × List ℕ) × List Posting
 shown_ranked e = ((e.0.0, string_bytes e.0.1), e.1)
 
 abbrev pub ranked_as : {Y : Type 0} → String Y × List Posting → (Reverse ℕ × List ℕ) × List Posting
@@ -30,15 +31,19 @@ abbrev pub term_cmp : Reverse ℕ × List ℕ → Reverse ℕ × List ℕ → Or
 term_cmp a b = ordering_then (nat_cmp b.0.0 a.0.0) (slice_cmp nat_cmp a.1 b.1)
 
 -- these entries put among others, one after another
-abbrev pub put_all : {K X : Type 0} → (K → K → Ordering) → List (K × X) → List (K × X) → List (K × X)
+abbrev pub put_all : {K X : Type 0} → (K → K → Ordering) → List (K × X)
+    → List (K × X) → List (K × X)
 put_all cmp es [] = es
 put_all cmp es (x ∷ xs) = put_all cmp (insert_entry cmp es x.0 x.1) xs
 
 -- the entry of a posting, for a term with this number and these quarter bits
 abbrev pub posting_entry : ℕ → ℕ → Posting → List Entry
-posting_entry term quarters p = if nat_lt 0 (min p.count 63 * quarters) then (term, p.document, min p.count 63 * quarters) ∷ [] else []
+posting_entry term quarters p =
+    if nat_lt 0 (min p.count 63 * quarters) then (term, p.document, min p.count 63 * quarters) ∷ []
+    else []
 
 -- the entries of the postings of terms, the first of which has this number, among so many documents
 abbrev pub table_entries : ℕ → ℕ → List (List ℕ × List Posting) → List Entry
 table_entries documents term [] = []
-table_entries documents term (e ∷ es) = flat_map (posting_entry term (bits documents (length e.1))) e.1 ++ table_entries documents (term + 1) es
+table_entries documents term (e ∷ es) = flat_map (posting_entry term (bits documents (length e.1)))
+    e.1 ++ table_entries documents (term + 1) es

@@ -18,12 +18,15 @@ corpus_terms documents = in_order (slice_cmp nat_cmp) (flat_map (λ d. terms d.t
 
 -- terms of more documents first, and of equally many the lower in bytes
 abbrev pub rank_cmp : List Document → List ℕ → List ℕ → Ordering
-rank_cmp documents v w = ordering_then (nat_cmp (document_frequency w documents) (document_frequency v documents)) (slice_cmp nat_cmp v w)
+rank_cmp documents v w =
+    ordering_then (nat_cmp (document_frequency w documents) (document_frequency v documents))
+    (slice_cmp nat_cmp v w)
 
 -- the vocabulary of at most so many terms: the first of the terms by rank, in the order of their
 -- bytes
 unfoldable pub vocabulary : ℕ → List Document → List (List ℕ)
-vocabulary most documents = in_order (slice_cmp nat_cmp) (take most (in_order (rank_cmp documents) (corpus_terms documents)))
+vocabulary most documents = in_order (slice_cmp nat_cmp)
+    (take most (in_order (rank_cmp documents) (corpus_terms documents)))
 
 -- the term is in the vocabulary
 abbrev pub is_kept : ℕ → List Document → List ℕ → Bool
@@ -34,9 +37,11 @@ pub record IsVocabulary (most : ℕ) (documents : List Document) (ws : List (Lis
   -- it ascends in bytes, so no term stands twice
   pub ascending : IsStrictlySortedBy (slice_cmp nat_cmp) ws
   -- its terms are terms of the corpus
-  pub terms : (w : List ℕ) → list_any (bytes_eq w) ws ≡ true → list_any (bytes_eq w) (corpus_terms documents) ≡ true
+  pub terms : (w : List ℕ) → list_any (bytes_eq w) ws ≡ true
+      → list_any (bytes_eq w) (corpus_terms documents) ≡ true
   -- there are as many as there may be, or all
   pub count : length ws ≡ min most (length (corpus_terms documents))
   -- a term of the corpus outside comes after each term inside
-  pub first : (v w : List ℕ) → list_any (bytes_eq v) ws ≡ true → list_any (bytes_eq w) (corpus_terms documents) ≡ true → list_any (bytes_eq w) ws ≡ false
+  pub first : (v w : List ℕ) → list_any (bytes_eq v) ws ≡ true
+      → list_any (bytes_eq w) (corpus_terms documents) ≡ true → list_any (bytes_eq w) ws ≡ false
       → rank_cmp documents v w ≡ Less

@@ -16,4 +16,5 @@ bits documents f = highest 64 (λ i. nat_le (2 ^ i * f ^ 4) (documents ^ 4))
 
 -- the weight of a term in a document
 unfoldable pub weight : List Document → List ℕ → Document → ℕ
-weight documents w d = min (term_frequency w (terms d.text)) 63 * bits (length documents) (document_frequency w documents)
+weight documents w d = min (term_frequency w (terms d.text)) 63 * bits (length documents)
+    (document_frequency w documents)

@@ -24,7 +24,8 @@ type Counted = Result<(), AllocError>;
 // One occurrence more of a term.
 fn count_term(alloc: Global, counts: &mut Counts, term: &str, document: u32) -> Counted
     ensures { OnOk result ((w : List ℕ) → get_by_text counts.new w
-        ≡ (if bytes_eq w term.now then Some (counted (postings_of counts.old w) document) else get_by_text counts.old w)) }
+        ≡ (if bytes_eq w term.now then Some (counted (postings_of counts.old w) document)
+        else get_by_text counts.old w)) }
 {
     match counts.get_mut(term) {
         Some(postings) => {
@@ -42,7 +43,8 @@ fn count_term(alloc: Global, counts: &mut Counts, term: &str, document: u32) -> 
 // One occurrence more of a folded word, if it isn't too long for a term.
 fn count_folded(alloc: Global, counts: &mut Counts, term: &str, document: u32) -> Counted
     ensures { OnOk result ((w : List ℕ) → get_by_text counts.new w
-        ≡ (if is_short term.now && bytes_eq w term.now then Some (counted (postings_of counts.old w) document) else get_by_text counts.old w)) }
+        ≡ (if is_short term.now && bytes_eq w term.now
+        then Some (counted (postings_of counts.old w) document) else get_by_text counts.old w)) }
 {
     if term.len() > MAX_TERM {
         return Ok(());
@@ -53,7 +55,8 @@ fn count_folded(alloc: Global, counts: &mut Counts, term: &str, document: u32) -
 // One occurrence more of a word. One that is its own folding is looked up as it stands.
 fn count_word(alloc: Global, counts: &mut Counts, word: &str, document: u32) -> Counted
     ensures { OnOk result ((w : List ℕ) → get_by_text counts.new w
-        ≡ (if is_short (folded word.now) && bytes_eq w (folded word.now) then Some (counted (postings_of counts.old w) document) else get_by_text counts.old w)) }
+        ≡ (if is_short (folded word.now) && bytes_eq w (folded word.now)
+        then Some (counted (postings_of counts.old w) document) else get_by_text counts.old w)) }
 {
     if is_folded(word) {
         return count_folded(alloc, counts, word, document);
@@ -79,7 +82,8 @@ fn count_document(alloc: Global, counts: &mut Counts, document: &Document, numbe
     requires listed { (w : List ℕ) → get_by_text counts.old w ≡ listed (postings_of counts.old w) }
     requires before { (w : List ℕ) → All (λ p. p.document < number) (postings_of counts.old w) }
     ensures { OnOk result ((w : List ℕ) → get_by_text counts.new w
-        ≡ listed (postings_of counts.old w ++ posting number (term_frequency w (terms document.now.text)))) }
+        ≡ listed (postings_of counts.old w ++ posting number
+        (term_frequency w (terms document.now.text)))) }
 {
     let text = text_of(document);
     for word in text.unicode_words() {
@@ -92,7 +96,8 @@ fn count_document(alloc: Global, counts: &mut Counts, document: &Document, numbe
 pub fn count_documents(alloc: Global, documents: &[Document]) -> Result<Counts, AllocError>
     requires each { All IsDocument documents.now }
     requires few { length documents.now ≤ MAX_DOCUMENTS }
-    ensures { IfOk result (λ counts. (w : List ℕ) → get_by_text counts w ≡ listed (postings w 0 documents.now)) }
+    ensures { IfOk result (λ counts. (w : List ℕ) → get_by_text counts w
+        ≡ listed (postings w 0 documents.now)) }
 {
     let mut counts = BTreeMap::new(alloc);
     for (number, document) in documents.iter().enumerate() {

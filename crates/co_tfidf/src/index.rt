@@ -21,7 +21,9 @@ pub type Entries = Listed<(u32, u32, u16)>;
 /// weights of at least 1, ascending by the numbers of term and document.
 #[derive(Debug, Drop)]
 pub struct Index {
+    /// The vocabulary, in the order of bytes.
     pub terms: Terms,
+    /// The weights, ascending by term and document.
     pub weights: Entries,
 }
 
@@ -33,7 +35,8 @@ fn add_entry(
     posting: Posting,
 ) -> Result<(), AllocError>
     requires { bits ≤ 64 }
-    ensures { OnOk result (entries.new.items ≡ entries.old.items ++ posting_entry term bits posting) }
+    ensures { OnOk result (entries.new.items ≡ entries.old.items
+        ++ posting_entry term bits posting) }
 {
     let weight = posting.count.min(MOST_COUNTED) * bits as u16;
     if weight > 0 {
@@ -50,7 +53,8 @@ fn add_entries(
     postings: &Postings,
 ) -> Result<(), AllocError>
     requires { bits ≤ 64 }
-    ensures { OnOk result (entries.new.items ≡ entries.old.items ++ flat_map (posting_entry term bits) postings.now) }
+    ensures { OnOk result (entries.new.items ≡ entries.old.items ++ flat_map
+        (posting_entry term bits) postings.now) }
 {
     for posting in postings.before() {
         add_entry(entries, term, bits, *posting)?;
@@ -73,7 +77,8 @@ fn index_of(alloc: Global, kept: Counts, documents: u32) -> Result<Index, AllocE
     requires documents { documents ≤ MAX_DOCUMENTS }
     requires each { All (λ e. (1 ≤ length e.1) × (length e.1 ≤ documents)) kept.entries }
     ensures terms { IfOk result (λ index. index.terms ≡ map (λ e. e.0) (map shown kept.entries)) }
-    ensures weights { IfOk result (λ index. index.weights ≡ table_entries documents 0 (map shown kept.entries)) }
+    ensures weights { IfOk result (λ index. index.weights
+        ≡ table_entries documents 0 (map shown kept.entries)) }
 {
     let mut entries = Vec::with_capacity(alloc, count_postings(&kept))?;
     let mut terms = Terms::new(alloc);

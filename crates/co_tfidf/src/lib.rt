@@ -19,5 +19,6 @@ mod vocabulary;
 mod weight;
 
 pub use index::{Entries, Index, build_index};
+pub use postings::MOST_WEIGHT;
 pub use search::plain_search;
 pub use weight::quarter_bits;

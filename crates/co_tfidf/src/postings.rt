@@ -8,10 +8,15 @@ use std::marker::Model;
 /// A count above this weighs no more, so counting stops here.
 pub const MOST_COUNTED: u16 = 63;
 
+/// The greatest weight: a count of 63 times 64 quarter bits.
+pub const MOST_WEIGHT: u16 = 4_032;
+
 /// A document that has a term, and how often, up to `MOST_COUNTED`.
 #[derive(Clone, Copy, Debug)]
 pub struct Posting {
+    /// The document's number.
     pub document: u32,
+    /// How often it has the term.
     pub count: u16,
 }
 

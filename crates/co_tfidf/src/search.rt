@@ -13,6 +13,8 @@ ghost use Rattle.co_tfidf.specs.Added.{document_weight, AllWithin};
 ghost use Rattle.co_tfidf.specs.EntryScores.{term_score};
 ghost use Rattle.co_tfidf.specs.Hits.{hit_of};
 ghost use Rattle.co_tfidf.specs.Found.{IsIndex, picked, found};
+ghost use Rattle.co_text.specs.declared.limits.TheConstants.{MAX_KEYWORDS};
+ghost use Rattle.co_tfidf.specs.declared.postings.TheConstants.{MOST_WEIGHT};
 
 use crate::Index;
 use co_corpus::{Corpus, Document};
@@ -36,7 +38,8 @@ fn entries_of(entries: &[(u32, u32, u16)], number: usize) -> &[(u32, u32, u16)]
 fn add_weight(scores: &mut [u32], document: u32, weight: u16)
     requires within { document < length scores.old }
     requires fits { slice_index scores.old document + weight < 2 ^ 32 }
-    ensures { (d : ℕ) → slice_index scores.new d ≡ slice_index scores.old d + (if document == d then weight else 0) }
+    ensures { (d : ℕ) → slice_index scores.new d ≡ slice_index scores.old d
+        + (if document == d then weight else 0) }
 {
     scores[document as usize] += u32::from(weight);
 }
@@ -45,7 +48,8 @@ fn add_weight(scores: &mut [u32], document: u32, weight: u16)
 fn add_weights(scores: &mut [u32], entries: &[(u32, u32, u16)])
     requires within { AllWithin (length scores.old) entries.now }
     requires fits { (d : ℕ) → slice_index scores.old d + document_weight d entries.now < 2 ^ 32 }
-    ensures { (d : ℕ) → slice_index scores.new d ≡ slice_index scores.old d + document_weight d entries.now }
+    ensures { (d : ℕ) → slice_index scores.new d ≡ slice_index scores.old d
+        + document_weight d entries.now }
 {
     for (_, document, weight) in entries {
         add_weight(scores, *document, *weight);
@@ -81,8 +85,9 @@ fn score_term(scores: &mut [u32], documents: &[Document], index: &Index, term: &
     requires sorted { IsStrictlySortedBy (slice_cmp nat_cmp) index.now.terms }
     requires index { index.now.weights ≡ entries documents.now 0 index.now.terms }
     requires within { length documents.now ≤ length scores.old }
-    requires fits { (d : ℕ) → slice_index scores.old d + 4032 < 2 ^ 32 }
-    ensures { (d : ℕ) → slice_index scores.new d ≡ slice_index scores.old d + term_score documents.now index.now.terms term.now d }
+    requires fits { (d : ℕ) → slice_index scores.old d + MOST_WEIGHT < 2 ^ 32 }
+    ensures { (d : ℕ) → slice_index scores.new d ≡ slice_index scores.old d
+        + term_score documents.now index.now.terms term.now d }
 {
     if let Some(number) = number_of(&index.terms, term.as_str()) {
         add_weights(scores, entries_of(index.weights.as_slice(), number));
@@ -98,8 +103,9 @@ fn scores_of(
 ) -> Result<Vec<u32>, AllocError>
     ghost most: { ℕ }
     requires index { IsIndex most documents.now index.now }
-    requires few { length query.now ≤ 16 }
-    ensures scores { IfOk result (λ v. v.items ≡ map (score_of most documents.now query.now) documents.now) }
+    requires few { length query.now ≤ MAX_KEYWORDS }
+    ensures scores { IfOk result (λ v. v.items
+        ≡ map (score_of most documents.now query.now) documents.now) }
     ensures count { IfOk result (λ v. length v.items ≡ length documents.now) }
 {
     let mut scores = vec![in alloc; 0u32; documents.len()]?;
@@ -144,7 +150,7 @@ pub fn plain_search(
 ) -> Result<Found, AllocError>
     ghost most: { ℕ }
     requires index { IsIndex most corpus.now index.now }
-    requires few { length (distinct query.now) ≤ 16 }
+    requires few { length (distinct query.now) ≤ MAX_KEYWORDS }
     ensures { IfOk result (λ f. f ≡ found most corpus.now hits query.now pick) }
 {
     let documents = corpus.as_slice();

@@ -19,7 +19,8 @@ type Ranked = BTreeMap<(Reverse<usize>, String), Postings>;
 // Puts a term at its rank.
 fn rank_term(ranked: &mut Ranked, term: String, postings: Postings) -> Result<(), AllocError>
     ensures { OnOk result (map shown_ranked ranked.new.entries
-        ≡ insert_entry term_cmp (map shown_ranked ranked.old.entries) (ranked_as (term, postings)).0 postings) }
+        ≡ insert_entry term_cmp (map shown_ranked ranked.old.entries)
+        (ranked_as (term, postings)).0 postings) }
 {
     ranked.insert((Reverse(postings.len()), term), postings)?;
     Ok(())
@@ -27,7 +28,8 @@ fn rank_term(ranked: &mut Ranked, term: String, postings: Postings) -> Result<()
 
 // All terms by rank.
 fn rank_terms(alloc: Global, counts: Counts) -> Result<Ranked, AllocError>
-    ensures ranked { IfOk result (λ ranked. map shown_ranked ranked.entries ≡ put_all term_cmp [] (map ranked_as counts.entries)) }
+    ensures ranked { IfOk result (λ ranked. map shown_ranked ranked.entries
+        ≡ put_all term_cmp [] (map ranked_as counts.entries)) }
     ensures ordered { IsOrdered string_cmp counts }
 {
     let mut ranked = BTreeMap::new(alloc);
@@ -40,7 +42,8 @@ fn rank_terms(alloc: Global, counts: Counts) -> Result<Ranked, AllocError>
 // Puts a term at its place in the order of bytes.
 fn keep_term(kept: &mut Counts, term: String, postings: Postings) -> Result<(), AllocError>
     ensures { OnOk result (map shown kept.new.entries
-        ≡ insert_entry (slice_cmp nat_cmp) (map shown kept.old.entries) (string_bytes term) postings) }
+        ≡ insert_entry (slice_cmp nat_cmp) (map shown kept.old.entries)
+        (string_bytes term) postings) }
 {
     kept.insert(term, postings)?;
     Ok(())
@@ -49,7 +52,8 @@ fn keep_term(kept: &mut Counts, term: String, postings: Postings) -> Result<(), 
 /// The terms of the most documents, at most so many, in the order of their bytes.
 pub fn keep_terms(alloc: Global, counts: Counts, most: u32) -> Result<Counts, AllocError>
     ensures kept { IfOk result (λ kept. map shown kept.entries
-        ≡ put_all (slice_cmp nat_cmp) [] (map unranked (take most (put_all term_cmp [] (map ranked_as counts.entries))))) }
+        ≡ put_all (slice_cmp nat_cmp) []
+        (map unranked (take most (put_all term_cmp [] (map ranked_as counts.entries))))) }
     ensures ordered { IsOrdered string_cmp counts }
 {
     let ranked = rank_terms(alloc, counts)?;

@@ -1,5 +1,5 @@
 -- A body that is read from its front, residue by residue.
-use Rattle.std.specs.Prelude.{◌≡◌, ℕ, ◌+◌, ◌*◌, ◌<◌, List, ◌++◌, length, map, take, All}
+use Rattle.std.specs.Prelude.{◌≡◌, ℕ, ◌+◌, ◌*◌, ◌<◌, List, ◌++◌, length, map, take, All, Result, Ok, Err}
 use Rattle.std.specs.List.{flat_map, range_with_len}
 use Rattle.co_switch.specs.Keys.{Key, Keys, IsKey, AreKeys, key_degree, keys_degree}
 use Rattle.co_wire.specs.declared.fault.WireFault.{WireFault}
@@ -20,6 +20,12 @@ IsRangeFault body (Range place) = IsFirstOutOfRange body place
 IsRangeFault body OutOfMemory = Unit {0}
 IsRangeFault body (Length wanted found) = ⊥
 IsRangeFault body (Public place) = ⊥
+
+-- a reader of the residues from the i-th up to the j-th gives what they spell, and has found those before the j-th in
+-- range; or its fault is the first residue out of range
+abbrev pub ReadsTo : {X : Type 0} → (X → List ℕ) → ℕ → ℕ → List ℕ → Result X WireFault → Type 0
+ReadsTo text i j body (Ok x) = SpellsBetween i j (text x) body × AreInRangeTo body j
+ReadsTo text i j body (Err fault) = IsRangeFault body fault
 
 -- so many keys of degree n with these elements
 pub record AreEach (n : ℕ) (element : ℕ → ℕ) (count : ℕ) (keys : List Key) : Type 0 where

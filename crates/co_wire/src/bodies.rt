@@ -7,7 +7,7 @@ ghost use Rattle.co_wire.specs.BadBodies.{IsBadBody};
 ghost use Rattle.co_wire.specs.Lengths.{cipher_size};
 ghost use Rattle.co_wire.specs.Bodies as bodies;
 ghost use Rattle.co_wire.specs.Bodies.{residue_bytes, polynomial_bytes, cipher_bytes, ciphers_bytes, SpellsCiphers};
-ghost use Rattle.co_wire.specs.Parts.{AreInRangeTo, SpellsBetween, IsRangeFault};
+ghost use Rattle.co_wire.specs.Parts.{AreInRangeTo, ReadsTo, IsRangeFault};
 
 use crate::fault::WireFault;
 use co_bfv::Cipher;
@@ -34,6 +34,7 @@ fn put_residue(out: &mut Vec<u8>, residue: u64) -> Result<(), AllocError>
 }
 
 /// Adds a polynomial at the end.
+#[tactic(auto, unfolding(crate::specs::Bodies::polynomial_bytes))]
 pub(crate) fn put_polynomial(out: &mut Vec<u8>, pair: &Pair) -> Result<(), AllocError>
     ensures { OnOk result (out.new.items ≡ out.old.items ++ polynomial_bytes pair.now) }
 {
@@ -120,11 +121,9 @@ pub(crate) fn read_polynomial(
     requires room { RESIDUE_BYTES * (from + 2 * degree) ≤ length body.now }
     requires even { from % 2 ≡ 0 }
     requires before { AreInRangeTo body.now from }
-    ensures spelled { IfOk result (λ p. SpellsBetween from (from + 2 * degree) (polynomial_bytes p) body.now) }
+    ensures read { ReadsTo polynomial_bytes from (from + 2 * degree) body.now result }
     ensures degree { IfOk result (λ p. length p ≡ degree) }
     ensures reduced { IfOk result IsWhole }
-    ensures in_range { OnOk result (AreInRangeTo body.now (from + 2 * degree)) }
-    ensures fault { IfErr result (IsRangeFault body.now) }
 {
     let mut first = Poly::zero(alloc, Modulus::First, degree)?;
     let mut second = Poly::zero(alloc, Modulus::Second, degree)?;
@@ -143,11 +142,9 @@ fn read_cipher(alloc: Global, degree: Degree, body: &[u8], from: usize) -> Resul
     requires room { RESIDUE_BYTES * (from + 4 * degree) ≤ length body.now }
     requires even { from % 2 ≡ 0 }
     requires before { AreInRangeTo body.now from }
-    ensures spelled { IfOk result (λ c. SpellsBetween from (from + 4 * degree) (cipher_bytes c) body.now) }
+    ensures read { ReadsTo cipher_bytes from (from + 4 * degree) body.now result }
     ensures degree { IfOk result (λ c. ciphertext_degree c ≡ degree) }
     ensures cipher { IfOk result IsCiphertext }
-    ensures in_range { OnOk result (AreInRangeTo body.now (from + 4 * degree)) }
-    ensures fault { IfErr result (IsRangeFault body.now) }
 {
     let c0 = read_polynomial(alloc, degree, body, from)?;
     let c1 = read_polynomial(alloc, degree, body, from + 2 * degree.get() as usize)?;

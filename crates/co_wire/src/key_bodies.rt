@@ -8,7 +8,7 @@ ghost use Rattle.co_math.specs.Logarithms.{log2_up};
 ghost use Rattle.co_switch.specs.Keys.{IsKey, key_degree, rotation_element, expansion_element};
 ghost use Rattle.co_wire.specs.BadBodies.{IsBadBody};
 ghost use Rattle.co_wire.specs.Bodies.{SpellsKeys, key_bytes, keys_bytes};
-ghost use Rattle.co_wire.specs.Parts.{AreInRangeTo, AreReadKeys, SpellsBetween, IsRangeFault, IsSetRead};
+ghost use Rattle.co_wire.specs.Parts.{AreInRangeTo, AreReadKeys, ReadsTo, IsRangeFault, IsSetRead};
 ghost use Rattle.co_wire.specs.Lengths.{key_size, request_size};
 
 use crate::bodies::{CIPHER_BYTES, check_length, put_polynomial, read_polynomial};
@@ -25,6 +25,7 @@ use std::alloc::{AllocError, Global};
 // ---- writing
 
 /// Adds a key at the end: for each digit the two polynomials of its pair.
+#[tactic(auto, unfolding(crate::specs::Bodies::pairs_bytes))]
 fn put_key(out: &mut Vec<u8>, key: &GaloisKey) -> Result<(), AllocError>
     ensures { OnOk result (out.new.items ≡ out.old.items ++ key_bytes key.now) }
 {
@@ -83,12 +84,10 @@ fn read_key(
     requires before { AreInRangeTo body.now from }
     requires odd { element % 2 ≡ 1 }
     requires within { element < 2 * degree }
-    ensures spelled { IfOk result (λ key. SpellsBetween from (from + 24 * degree) (key_bytes key) body.now) }
+    ensures read { ReadsTo key_bytes from (from + 24 * degree) body.now result }
     ensures element { IfOk result (λ key. key.element ≡ element) }
     ensures degree { IfOk result (λ key. key_degree key ≡ degree) }
     ensures key { IfOk result IsKey }
-    ensures in_range { OnOk result (AreInRangeTo body.now (from + 24 * degree)) }
-    ensures fault { IfErr result (IsRangeFault body.now) }
 {
     let half = 2 * degree.get() as usize;
     let mut k0 = Vec::with_capacity(alloc, DIGIT_COUNT as usize)?;

@@ -29,12 +29,15 @@ use Rattle.coeus.specs.declared.limits.TheConstants.{MAX_CORPUS}
 use Rattle.coeus.specs.declared.refusals.Refusal.{Refusal}
 use Rattle.coeus.specs.declared.refusals.Refusal.TheVariants.{Corpus, CorpusTooLong, Publish, Test, Keywords, Search, File, Output, Memory}
 use Rattle.coeus.specs.Words.{Spoken, SpokenPlain, SpokenImport, SpokenShape, SpokenLocal, SpokenServe, SpokenSearch, SpokenRehearse, SpokenWrong, PlainWords, ImportWords, spoken}
+use Rattle.coeus.specs.declared.words.Command.{Command}
+use Rattle.coeus.specs.Commands.{command_shown}
 use Rattle.coeus.specs.Outside.{Outside, FilesState, SinkState, HasNoFault}
-use Rattle.coeus.specs.Refusals.{status_of, status_of_publishing, status_of_search, text_of, Says}
+use Rattle.coeus.specs.Access.{FileCause, Puts}
+use Rattle.coeus.specs.Refusals.{status_of, status_of_publishing, status_of_search, text_of, Says, Finishes}
 use Rattle.coeus.specs.Searches.{HasCorpus, IsToldCorpus, ReadCause, TextCause, CanBeSearched}
 use Rattle.coeus.specs.Imports.{CanBeImported}
 use Rattle.coeus.specs.ShapeLines.{status_of_test}
-use Rattle.coeus.specs.Runs.{Keeps, Uses, Due, Answered, RefusedBy, Ran}
+use Rattle.coeus.specs.Runs.{Prints, Begins, Passes, Keeps, Uses, Due, Answered, Ended, RefusedBy, Ran}
 
 -- ---- refusals of the steps
 
@@ -57,6 +60,12 @@ import_unread i was is (File Read) cause out files uses = record { cause = cause
 import_unread i was is Memory cause out files uses = record { cause = cause; out = out; files = files; uses = uses }
 import_unread i was is refusal cause out files uses = absurd cause
 
+-- a file that isn't read gives no corpus
+pub corpus_unread : (name : List ℕ) (was is : FilesState) (refusal : Refusal) → FileCause name was is refusal → ReadCause name was is refusal
+corpus_unread name was is (Corpus fault) cause = absurd cause
+corpus_unread name was is CorpusTooLong cause = absurd cause
+corpus_unread name was is refusal cause = cause
+
 -- a corpus that is read has no answer
 pub plain_unfound : (p : PlainWords) (was is : Outside) (documents : List Document) (refusal : Refusal)
     → HasCorpus was.files.held p.corpus documents → TextCause p refusal
@@ -67,6 +76,22 @@ plain_unfound p was is documents (Keywords number) corpus cause out files uses =
     record { cause = record { documents = documents; corpus = corpus; cause = cause }; out = out; files = files; uses = uses }
 plain_unfound p was is documents Memory corpus cause out files uses = record { cause = tt; out = out; files = files; uses = uses }
 plain_unfound p was is documents refusal corpus cause out files uses = absurd cause
+
+-- ---- the answer
+
+-- the text couldn't be put whole
+pub put_fails : (command : Spoken) (was is : Outside) (text : List ℕ) (refusal : Refusal) → Puts text was.out is.out (Err refusal) → Begins command was is text
+    → Keeps command was.files.held is.files.held → Uses command was.devices is.devices → RefusedBy command was is refusal
+put_fails command was is text Output puts begins keeps uses = record { text = text; begins = begins; took = puts; keeps = keeps; uses = uses }
+put_fails command was is text refusal puts begins keeps uses = absurd puts
+
+-- a command ends with the put of its text
+pub put_ends : (command : Spoken) (was is : Outside) (text : List ℕ) (result : Result (Unit {0}) Refusal) → Puts text was.out is.out result
+    → Prints command was is text → Begins command was is text → Passes command → Keeps command was.files.held is.files.held
+    → Uses command was.devices is.devices → Ended command was is result
+put_ends command was is text (Ok done) puts prints begins passes keeps uses =
+    record { text = text; prints = prints; passes = passes; took = puts.0; keeps = keeps; uses = uses }
+put_ends command was is text (Err refusal) puts prints begins passes keeps uses = put_fails command was is text refusal puts begins keeps uses
 
 -- ---- the status that is due
 
@@ -88,7 +113,7 @@ same_documents held name ds es told c = same_value (corpus_of c.bytes) es ds c.r
 read_due : (name : List ℕ) (was is : FilesState) (documents : List Document) (refusal : Refusal) → IsToldCorpus was.held name documents
     → (¬ Rose was.faults is.faults) → ReadCause name was is refusal → status_of refusal ≡ 10
 read_due name was is documents (Corpus fault) told kept cause =
-    absurd (differ documents fault (corpus_of cause.bytes) (read_as was.held name documents told cause.bytes (cause.file.stands told.told)) cause.unread)
+    absurd (differ documents fault (corpus_of cause.bytes) (read_as was.held name documents told cause.bytes (cause.file.stands told.told)) cause.read)
 read_due name was is documents CorpusTooLong told kept cause =
     absurd (omega (arith, told.corpus.file.fits, subst (IsLonger MAX_CORPUS) (told.corpus.file.stands told.told) (cause told.told)))
 read_due name was is documents (File Read) told kept cause = absurd (kept cause.rose)
@@ -202,7 +227,7 @@ positive (Publish fault) zero = absurd cc
 positive (Search fault) zero = search_positive fault zero
 positive refusal zero = absurd cc
 
-pub ran_answered : (words : List (List ℕ)) (command : Spoken) (was is : Outside) (err : SinkState) → command ≡ spoken words → Answered command was is
+ran_answered : (words : List (List ℕ)) (command : Spoken) (was is : Outside) (err : SinkState) → command ≡ spoken words → Answered command was is
     → Ran words was is err err 0
 ran_answered words command was is err same a =
     let answered : Answered (spoken words) was is = subst (λ (c : Spoken). Answered c was is) same a in
@@ -215,7 +240,7 @@ ran_answered words command was is err same a =
       unchanged = λ other nine. absurd (other refl);
     }
 
-pub ran_refused : (words : List (List ℕ)) (command : Spoken) (was is : Outside) (err_was err_is : SinkState) (refusal : Refusal) (status : ℕ)
+ran_refused : (words : List (List ℕ)) (command : Spoken) (was is : Outside) (err_was err_is : SinkState) (refusal : Refusal) (status : ℕ)
     → command ≡ spoken words → RefusedBy command was is refusal → status ≡ status_of refusal → Says (text_of words refusal) err_was err_is
     → Ran words was is err_was err_is status
 ran_refused words command was is err_was err_is refusal status same r status_is says =
@@ -228,3 +253,14 @@ ran_refused words command was is err_was err_is refusal status same r status_is 
       uses = refused_uses (spoken words) was is refusal ended;
       unchanged = λ other nine. unchanged (spoken words) was is refusal ended (λ e. nine (status_is ∙ e));
     }
+
+-- a command that was read ended, and its end was finished
+pub ran : (words : List (List ℕ)) (read command : Command) (was is : Outside) (err_was err_is : SinkState) (result : Result (Unit {0}) Refusal) (status : ℕ)
+    → read ≡ command → command_shown read ≡ spoken words → Ended (command_shown command) was is result → Finishes words result err_was err_is status
+    → Ran words was is err_was err_is status
+ran words read command was is err_was err_is (Ok done) status is_read same ended f =
+    subst (λ (n : ℕ). Ran words was is err_was err_is n) (sym f.0)
+    (subst (λ (err : SinkState). Ran words was is err_was err 0) (sym f.1)
+    (ran_answered words (command_shown command) was is err_was (ap command_shown (sym is_read) ∙ same) ended))
+ran words read command was is err_was err_is (Err refusal) status is_read same ended f =
+    ran_refused words (command_shown command) was is err_was err_is refusal status (ap command_shown (sym is_read) ∙ same) ended f.0 f.1

@@ -34,9 +34,10 @@ use Rattle.coeus.specs.declared.refusals.Refusal.{Refusal}
 use Rattle.coeus.specs.declared.refusals.Refusal.TheVariants.{Library, LibraryTooLong, Test, Search as Unsearched, File, Output, Memory}
 use Rattle.coeus.specs.Words.{SpokenLocal, LocalWords, joined}
 use Rattle.coeus.specs.Outside.{Outside, FilesState, HasNoFault}
+use Rattle.coeus.specs.Access.{FileCause}
 use Rattle.coeus.specs.Refusals.{status_of, status_of_refused}
 use Rattle.coeus.specs.Imports.{HasImport}
-use Rattle.coeus.specs.Locals.{HasLibraryFile, CanBeServed, OpenCause, search_for, IsSearched, Searched, HasFound, FindCause, LocalAnswer, LocalCause, LocalDue}
+use Rattle.coeus.specs.Locals.{HasLibraryFile, CanBeServed, OpenCause, search_for, IsSearched, Searched, HasFound, FindCause, Finds, IsShown, LocalAnswer, LocalCause, LocalDue}
 use Rattle.coeus.specs.Runs.{Uses, Answered, RefusedBy}
 use Rattle.co_client.proofs.Told.{told-at}
 use Rattle.co_client.proofs.Tells_plainly.{tells_plainly}
@@ -70,6 +71,13 @@ same_library : (held : Option Folder) (name : List ℕ) (documents : List Docume
 same_library held name documents settings library other f i =
     same_value (library_in f.bytes) library other f.read (imported held name f.bytes documents settings other f.file.stands i)
 
+-- a file that isn't read gives no library
+pub library_unread : (name : List ℕ) (was is : FilesState) (refusal : Refusal) → FileCause name was is refusal → OpenCause name was is refusal
+library_unread name was is (Library place) cause = absurd cause
+library_unread name was is LibraryTooLong cause = absurd cause
+library_unread name was is (Test fault) cause = absurd cause
+library_unread name was is refusal cause = cause
+
 -- ---- the search
 
 -- a search for the terms of a text, over a link that never fails
@@ -91,38 +99,6 @@ searched_over p library was is result text before now same new good honest told 
       drawn = is_drawn p library was is result now good honest tells.whole tells.goes tells.read tells.refused tells.asked;
       plain = λ documents settings built. tells_plainly (search_for p was) now result is tells documents settings library None built honest;
     }
-
-no_exchange : {A : Type 0} (x : A) (xs : List A) → [] ≡ x ∷ xs → ⊥
-no_exchange x xs same = absurd cc
-
--- a search that isn't begun, for want of memory
-pub not_begun : (p : LocalWords) (library : Parts) (random : Stream) → IsSearched p library random random (Err searching.OutOfMemory)
-not_begun p library random = record {
-  exchanges = [];
-  honest = tt;
-  tells = record {
-    follows = refl;
-    whole = λ answered. absurd answered;
-    read = tt;
-    refused = tt;
-    asked = λ s ts publishes passes. absurd (no_exchange publishes.first publishes.others publishes.are);
-    goes = record {
-      few = λ some. absurd (omega (arith, some));
-      tested = λ s ts publishes more. absurd (no_exchange publishes.first publishes.others publishes.are);
-      taken = λ number e is more. absurd (omega (arith, more));
-    };
-    few = tt;
-    earlier = record {
-      status = λ number e is more. absurd (omega (arith, more));
-      public = λ e place is more bad. absurd (omega (arith, more));
-      whole = λ s ts publishes. absurd (no_exchange publishes.first publishes.others publishes.are);
-      tested = λ s ts publishes more. absurd (no_exchange publishes.first publishes.others publishes.are);
-      recorded = λ s ts hits fault more read. absurd (omega (arith, more));
-    };
-  };
-  drawn = λ answered. absurd answered;
-  plain = λ documents settings built. tt;
-}
 
 -- a search in the library of a file
 in_file : (p : LocalWords) (held : Option Folder) (was is : Stream) (result : Result Found SearchFault) (library : Parts) → CanBeServed held p.library library
@@ -166,6 +142,16 @@ not_found p was is random left library (Unsearched fault) served cause =
 not_found p was is random left library Memory served cause = tt
 not_found p was is random left library refusal served cause = absurd cause
 
+-- what is shown of a search
+pub shown_finds : (p : LocalWords) (library : Parts) (was is : Stream) (found : Result Found SearchFault) (result : Result (List ℕ) Refusal)
+    → IsShown found result → IsSearched p library was is found → Finds p library was is result
+shown_finds p library was is (Ok found) (Ok text) shown searched =
+    record { ok = record { found = found; search = searched; text_is = shown }; cause = tt }
+shown_finds p library was is (Ok found) (Err Memory) shown searched = record { ok = tt; cause = tt }
+shown_finds p library was is (Err fault) (Err (Unsearched one)) shown searched =
+    record { ok = tt; cause = subst (λ (f : SearchFault). IsSearched p library was is (Err f)) (sym shown) searched }
+shown_finds p library was is found result shown searched = absurd shown
+
 pub found_text : (p : LocalWords) (held : Option Folder) (was is : Stream) (library : Parts) (text : List ℕ) → CanBeServed held p.library library
     → HasFound p library was is text → LocalAnswer p held was is text
 found_text p held was is library text served h =
@@ -192,7 +178,7 @@ open_due : (name : List ℕ) (was is : FilesState) (documents : List Document) (
     → HasImport was.held name documents settings library → test_of library.shape ≡ Ok library.shape → (¬ Rose was.faults is.faults)
     → OpenCause name was is refusal → status_of refusal ≡ 10
 open_due name was is documents settings library (Library place) i passes kept cause =
-    absurd (differ library place (library_in cause.bytes) (imported was.held name cause.bytes documents settings library cause.file.stands i) cause.unread)
+    absurd (differ library place (library_in cause.bytes) (imported was.held name cause.bytes documents settings library cause.file.stands i) cause.read)
 open_due name was is documents settings library LibraryTooLong i passes kept cause =
     let long : MAX_LIBRARY < length (library_bytes library) = subst (IsLonger MAX_LIBRARY) i.stands (cause (tells was.held name (library_bytes library) i.stands)) in
     absurd (omega (arith, long, file_few library i.of_corpus.built.good))

@@ -20,7 +20,7 @@ use Rattle.coeus.specs.Refusals.{status_of}
 use Rattle.coeus.specs.Locals.{CanBeServed, OpenCause}
 use Rattle.coeus.specs.Connections.{AreServed, Calls, raised, connection_lines}
 use Rattle.coeus.specs.Served.{Accepted, ServesSome}
-use Rattle.coeus.specs.Serving.{ServeDue, uncalled, called}
+use Rattle.coeus.specs.Serving.{HasServed, ServeDue, uncalled, called}
 use Rattle.coeus.specs.Runs.{Uses, Ended, RefusedBy}
 use Rattle.coeus.proofs.Outcomes.{differ, same_value}
 use Rattle.coeus.proofs.Searching.{told_bytes}
@@ -106,6 +106,19 @@ called_so port accepts was mid is listens accepted = record {
   accepts_are = accepted.accepts_are ∙ ap (λ (t : PortTells). raised t.accepts accepts) listens;
 }
 
+-- what was served behind a call to listen was served by the command
+has_served : (p : ServeWords) (was is : Outside) (mid : PortState) (library : Parts) (served : List Served) → CanBeServed was.files.held p.library library
+    → length served ≤ p.connections → Listens was.devices.port.tells mid.tells p.port (Ok tt) → mid.put ≡ was.devices.port.put
+    → mid.take_faults ≡ was.devices.port.take_faults → mid.put_faults ≡ was.devices.port.put_faults → AreServed library served mid is.devices.port
+    → HasServed p was is served
+has_served p was is mid library served opened few listens put takes puts serves = record {
+  library = library;
+  opened = opened;
+  few = few;
+  serves = served_from library served was.devices.port mid is.devices.port serves (ap (λ (t : PortTells). t.waiting) listens)
+      (ap (λ (t : PortTells). t.ended) listens) (ap (λ (t : PortTells). t.connected) listens) put takes puts;
+}
+
 -- what was served behind a call to listen ends the command
 pub serving_ends : (p : ServeWords) (files_was files_is : FilesState) (random : Stream) (dial : DialState) (was mid is : PortState) (out_was out_is : SinkState)
     (library : Parts) (result : Result (Unit {0}) Refusal) → CanBeServed files_was.held p.library library → files_is.held ≡ files_was.held
@@ -118,12 +131,7 @@ serving_ends p files_was files_is random dial was mid is out_was out_is library 
       text = connection_lines 1 s.0;
       prints = record {
         served = s.0;
-        serving = record {
-          library = library;
-          opened = opened;
-          few = omega (arith, s.1);
-          serves = since library s.0 was mid is listens put takes puts s.2.serves;
-        };
+        serving = has_served p _ _ mid library s.0 opened (omega (arith, s.1)) listens put takes puts s.2.serves;
         all = s.1;
         calls = calls;
         text_is = refl;
@@ -133,25 +141,13 @@ serving_ends p files_was files_is random dial was mid is out_was out_is library 
       keeps = files;
       uses = (refl, called (length s.0) (omega (arith, s.1)) calls);
     }
-  where
-    since : (library : Parts) (served : List Served) (was mid is : PortState) → Listens was.tells mid.tells p.port (Ok tt) → mid.put ≡ was.put
-        → mid.take_faults ≡ was.take_faults → mid.put_faults ≡ was.put_faults → AreServed library served mid is → AreServed library served was is
-    since library served was mid is listens put takes puts a =
-        served_from library served was mid is a (ap (λ (t : PortTells). t.waiting) listens) (ap (λ (t : PortTells). t.ended) listens)
-        (ap (λ (t : PortTells). t.connected) listens) put takes puts
 serving_ends p files_was files_is random dial was mid is out_was out_is library (Err Output) opened files listens put takes puts faults s =
     let calls = called_so p.port (length s.0) was.tells mid.tells is.tells listens s.2.accepted in
     record {
       text = connection_lines 1 s.0;
       begins = record {
         served = s.0;
-        serving = record {
-          library = library;
-          opened = opened;
-          few = s.1;
-          serves = served_from library s.0 was mid is s.2.serves (ap (λ (t : PortTells). t.waiting) listens) (ap (λ (t : PortTells). t.ended) listens)
-              (ap (λ (t : PortTells). t.connected) listens) put takes puts;
-        };
+        serving = has_served p _ _ mid library s.0 opened s.1 listens put takes puts s.2.serves;
         calls = calls;
         text_is = refl;
       };
@@ -164,13 +160,7 @@ serving_ends p files_was files_is random dial was mid is out_was out_is library 
     record {
       cause = record {
         served = s.0;
-        serving = record {
-          library = library;
-          opened = opened;
-          few = omega (arith, s.1);
-          serves = served_from library s.0 was mid is s.2.serves (ap (λ (t : PortTells). t.waiting) listens) (ap (λ (t : PortTells). t.ended) listens)
-              (ap (λ (t : PortTells). t.connected) listens) put takes puts;
-        };
+        serving = has_served p _ _ mid library s.0 opened (omega (arith, s.1)) listens put takes puts s.2.serves;
         fewer = s.1;
         rose = subst (λ (n : ℕ). Rose n is.faults) faults s.2.rose;
         took = s.2.took;
@@ -189,7 +179,7 @@ opened_due : (name : List ℕ) (was is : FilesState) (library : Parts) (refusal 
     → (¬ Rose was.faults is.faults) → OpenCause name was is refusal → status_of refusal ≡ 10
 opened_due name was is library (Library place) told served kept cause =
     let same = told_bytes was.held name cause.bytes served.file.bytes cause.file.stands (served.file.file.stands told) in
-    absurd (differ library place (library_in cause.bytes) (ap library_in same ∙ served.file.read) cause.unread)
+    absurd (differ library place (library_in cause.bytes) (ap library_in same ∙ served.file.read) cause.read)
 opened_due name was is library LibraryTooLong told served kept cause =
     let long : MAX_LIBRARY < length served.file.bytes = subst (IsLonger MAX_LIBRARY) (served.file.file.stands told) (cause told) in
     absurd (omega (arith, long, served.file.file.fits))

@@ -17,6 +17,7 @@ use Rattle.co_serving.specs.declared.ended.Ended.TheVariants as ended
 use Rattle.co_serving.specs.declared.ended.Served.{Served}
 use Rattle.co_connections.specs.Serving.{ServesLibrary}
 use Rattle.coeus.specs.Outside.{PortState, SinkState}
+use Rattle.coeus.specs.Access.{Puts}
 use Rattle.coeus.specs.Connections.{Connection, IsServed, Came, AreServed, RoseBy, outputs_of, raised, is_read_fault, is_write_fault, connection_line, connection_lines}
 use Rattle.coeus.specs.Served.{Accepted, ServesOne, ServedSoFar, ServesNext, ServesSome}
 use Rattle.coeus.specs.declared.refusals.Refusal.{Refusal}
@@ -95,22 +96,12 @@ came library s was mid is accepted same serves waiting outputs waits are =
 one_fault : (requests : ℕ) (end : Ended) (before now : ℕ) → before ≤ now → (end ≡ ended.ReadFault → Rose before now)
     → RoseBy (length (filter (λ (s : Served). is_read_fault s.ended) (record { requests = requests; ended = end } ∷ []))) before now
 one_fault requests ended.ReadFault before now later rose = omega (arith, rose refl)
-one_fault requests ended.Closed before now later rose = omega (arith, later)
-one_fault requests (ended.Refused status) before now later rose = omega (arith, later)
-one_fault requests ended.Cut before now later rose = omega (arith, later)
-one_fault requests ended.Spent before now later rose = omega (arith, later)
-one_fault requests ended.WriteFault before now later rose = omega (arith, later)
-one_fault requests ended.OutOfMemory before now later rose = omega (arith, later)
+one_fault requests end before now later rose = omega (arith, later)
 
 one_write_fault : (requests : ℕ) (end : Ended) (before now : ℕ) → before ≤ now → (end ≡ ended.WriteFault → Rose before now)
     → RoseBy (length (filter (λ (s : Served). is_write_fault s.ended) (record { requests = requests; ended = end } ∷ []))) before now
 one_write_fault requests ended.WriteFault before now later rose = omega (arith, rose refl)
-one_write_fault requests ended.Closed before now later rose = omega (arith, later)
-one_write_fault requests (ended.Refused status) before now later rose = omega (arith, later)
-one_write_fault requests ended.Cut before now later rose = omega (arith, later)
-one_write_fault requests ended.Spent before now later rose = omega (arith, later)
-one_write_fault requests ended.ReadFault before now later rose = omega (arith, later)
-one_write_fault requests ended.OutOfMemory before now later rose = omega (arith, later)
+one_write_fault requests end before now later rose = omega (arith, later)
 
 -- a connection was accepted, and then served
 pub one_served : (library : Parts) (s : Served) (was mid is : PortState) → was.tells.listening ≡ true
@@ -279,9 +270,10 @@ at_first library connections was out listens = record {
 }
 
 -- the line of the next connection is behind those so far
-next_line : (served : List Served) (number : ℕ) (s : Served) → length served ≡ number
-    → connection_lines 1 (served ++ s ∷ []) ≡ connection_lines 1 served ++ connection_line (number + 1) s
-next_line served number s count = lines_more 1 served s ∙ ap (λ (k : ℕ). connection_lines 1 served ++ connection_line k s) (omega (arith, count))
+with_line : (served : List Served) (number : ℕ) (s : Served) (line : List ℕ) → length served ≡ number → line ≡ connection_line (number + 1) s
+    → connection_lines 1 served ++ line ≡ connection_lines 1 (served ++ s ∷ [])
+with_line served number s line count line_is =
+    ap (λ (t : List ℕ). connection_lines 1 served ++ t) (line_is ∙ ap (λ (k : ℕ). connection_line k s) (omega (arith, count))) ∙ sym (lines_more 1 served s)
 
 more_count : (served : List Served) (number : ℕ) (s : Served) → length served ≡ number → length (served ++ s ∷ []) ≡ number + 1
 more_count served number s count = length-append served (s ∷ []) ∙ omega (arith, count)
@@ -292,46 +284,52 @@ more_accepted served s was mid is first second =
     subst (λ (n : ℕ). Accepted n was is) (sym (more_count served (length served) s refl)) (accepted_more (length served) was mid is first second)
 
 -- one connection more
-pub next_served : (library : Parts) (number connections : ℕ) (was mid is : PortState) (out_was out_mid out_is : SinkState) → number < connections
-    → SoFar library number connections was mid out_was out_mid → ServesNext library (number + 1) mid is out_mid out_is (Ok tt)
-    → SoFar library (number + 1) connections was is out_was out_is
-next_served library number connections was mid is out_was out_mid out_is below f n = record {
-  served = f.served ++ n.0 ∷ [];
-  count = more_count f.served number n.0 f.count;
+pub next_served : (library : Parts) (number connections : ℕ) (was mid is : PortState) (out_was out_mid out_is : SinkState) (s : Served) (line : List ℕ)
+    → number < connections → SoFar library number connections was mid out_was out_mid → ServesOne library s mid is → line ≡ connection_line (number + 1) s
+    → Puts line out_mid out_is (Ok tt) → SoFar library (number + 1) connections was is out_was out_is
+next_served library number connections was mid is out_was out_mid out_is s line below f one line_is puts = record {
+  served = f.served ++ s ∷ [];
+  count = more_count f.served number s f.count;
   within = omega (arith, below);
   so_far = record {
-    serves = served_more library f.served (n.0 ∷ []) was mid is f.so_far.serves n.1.serves;
-    accepted = more_accepted f.served n.0 was.tells mid.tells is.tells f.so_far.accepted n.1.accepted;
-    took = subst (λ (t : List ℕ). TookWhole out_was.bytes out_is.bytes t) (sym (next_line f.served number n.0 f.count))
-        (took_more out_was.bytes out_mid.bytes out_is.bytes (connection_lines 1 f.served) (connection_line (number + 1) n.0) f.so_far.took n.2);
+    serves = served_more library f.served (s ∷ []) was mid is f.so_far.serves one.serves;
+    accepted = more_accepted f.served s was.tells mid.tells is.tells f.so_far.accepted one.accepted;
+    took = subst (λ (t : List ℕ). TookWhole out_was.bytes out_is.bytes t) (with_line f.served number s line f.count line_is)
+        (took_more out_was.bytes out_mid.bytes out_is.bytes (connection_lines 1 f.served) line f.so_far.took puts.0);
   };
-  out_faults = n.3 ∙ f.out_faults;
-  port_faults = n.1.faults ∙ f.port_faults;
+  out_faults = puts.1 ∙ f.out_faults;
+  port_faults = one.faults ∙ f.port_faults;
 }
+
+-- the line of one connection more wasn't taken whole
+pub next_unput : (library : Parts) (number connections : ℕ) (was mid is : PortState) (out_was out_mid out_is : SinkState) (s : Served) (line : List ℕ)
+    (refusal : Refusal) → number < connections → SoFar library number connections was mid out_was out_mid → ServesOne library s mid is
+    → line ≡ connection_line (number + 1) s → Puts line out_mid out_is (Err refusal) → ServesSome library connections was is out_was out_is (Err refusal)
+next_unput library number connections was mid is out_was out_mid out_is s line refusals.Output below f one line_is puts = (
+  f.served ++ s ∷ [],
+  omega (arith, more_count f.served number s f.count, below),
+  record {
+    serves = served_more library f.served (s ∷ []) was mid is f.so_far.serves one.serves;
+    accepted = more_accepted f.served s was.tells mid.tells is.tells f.so_far.accepted one.accepted;
+    took = record {
+      front = subst (λ (t : List ℕ). TookPrefix out_was.bytes out_is.bytes t) (with_line f.served number s line f.count line_is)
+          (front_more out_was.bytes out_mid.bytes out_is.bytes (connection_lines 1 f.served) line f.so_far.took puts.front);
+      rose = omega (arith, f.out_faults, puts.rose);
+    };
+  },
+)
+next_unput library number connections was mid is out_was out_mid out_is s line refusal below f one line_is puts = absurd puts
 
 -- all of them
 pub all_served : (library : Parts) (number connections : ℕ) (was is : PortState) (out_was out_is : SinkState) → SoFar library number connections was is out_was out_is
     → (number < connections → ⊥) → ServesSome library connections was is out_was out_is (Ok tt)
 all_served library number connections was is out_was out_is f done = (f.served, omega (arith, f.count, f.within, done), f.so_far)
 
--- the next connection ended all
-pub next_ended : (library : Parts) (number connections : ℕ) (was mid is : PortState) (out_was out_mid out_is : SinkState) (refusal : Refusal) → number < connections
-    → SoFar library number connections was mid out_was out_mid
-    → ServesNext library (number + 1) mid is out_mid out_is (Err refusal) → ServesSome library connections was is out_was out_is (Err refusal)
-next_ended library number connections was mid is out_was out_mid out_is refusals.Output below f n = (
-  f.served ++ n.0 ∷ [],
-  omega (arith, more_count f.served number n.0 f.count, below),
-  record {
-    serves = served_more library f.served (n.0 ∷ []) was mid is f.so_far.serves n.1.serves;
-    accepted = more_accepted f.served n.0 was.tells mid.tells is.tells f.so_far.accepted n.1.accepted;
-    took = record {
-      front = subst (λ (t : List ℕ). TookPrefix out_was.bytes out_is.bytes t) (sym (next_line f.served number n.0 f.count))
-          (front_more out_was.bytes out_mid.bytes out_is.bytes (connection_lines 1 f.served) (connection_line (number + 1) n.0) f.so_far.took n.2.front);
-      rose = omega (arith, f.out_faults, n.2.rose);
-    };
-  },
-)
-next_ended library number connections was mid is out_was out_mid out_is refusals.Port below f n = (
+-- no connection more was accepted
+pub next_unserved : (library : Parts) (number connections : ℕ) (was mid is : PortState) (out_was out_is : SinkState) (refusal : Refusal) → number < connections
+    → SoFar library number connections was mid out_was out_is → ServesNext library mid is (Err refusal)
+    → ServesSome library connections was is out_was out_is (Err refusal)
+next_unserved library number connections was mid is out_was out_is refusals.Port below f n = (
   f.served,
   omega (arith, f.count, below),
   record {
@@ -340,7 +338,7 @@ next_ended library number connections was mid is out_was out_mid out_is refusals
         (accepted_more (length f.served) was.tells mid.tells (record mid.tells { accepts = one_more mid.tells.accepts }) f.so_far.accepted
         (record { listening = f.so_far.accepted.listening; listens = refl; last_port = refl; accepts_are = refl }));
     rose = omega (arith, f.port_faults, n.rose);
-    took = subst (λ (o : SinkState). TookWhole out_was.bytes o.bytes (connection_lines 1 f.served)) (sym n.out) f.so_far.took;
+    took = f.so_far.took;
   },
 )
-next_ended library number connections was mid is out_was out_mid out_is refusal below f n = absurd n
+next_unserved library number connections was mid is out_was out_is refusal below f n = absurd n

@@ -2,6 +2,7 @@ pub mod Words
 pub mod Commands
 pub mod Next
 pub mod Outside
+pub mod Access
 pub mod Refusals
 pub mod Searches
 pub mod Imports

@@ -1,8 +1,7 @@
 -- The command `local`: what it prints, and when it refuses.
-use Rattle.std.specs.Prelude.{◌≡◌, ◌≤◌, ℕ, List, length, Option, None, IsSome, Result, Ok, Err}
+use Rattle.std.specs.Prelude.{◌≡◌, ◌≤◌, ℕ, List, length, Option, None, IsSome, Result, Ok, Err, IfOk, IfErr}
 use Rattle.rand_core.specs.Stream.{Stream}
-use Rattle.co_link.specs.Files.{Folder, file_at, IsLonger}
-use Rattle.co_link.specs.declared.files.FileKind.TheVariants.{Read}
+use Rattle.co_link.specs.Files.{Folder}
 use Rattle.co_link.specs.declared.messages.Exchange.{Exchange}
 use Rattle.co_noise.specs.Bounds.{test_of}
 use Rattle.co_noise.specs.declared.testing.TestFault.{TestFault}
@@ -27,8 +26,9 @@ use Rattle.co_client.specs.declared.fault.SearchFault.{SearchFault}
 use Rattle.co_client.specs.declared.fault.SearchFault.TheVariants as searching
 use Rattle.coeus.specs.declared.limits.TheConstants.{MAX_LIBRARY}
 use Rattle.coeus.specs.Words.{LocalWords, joined}
-use Rattle.coeus.specs.Outside.{FilesState, Fails}
-use Rattle.coeus.specs.Searches.{HasFile, query_of}
+use Rattle.coeus.specs.Outside.{FilesState}
+use Rattle.coeus.specs.Access.{HasLongFile, HasReading, FileCause}
+use Rattle.coeus.specs.Searches.{query_of}
 use Rattle.coeus.specs.Imports.{HasImport}
 use Rattle.coeus.specs.declared.refusals.Refusal.{Refusal}
 use Rattle.coeus.specs.declared.refusals.Refusal.TheVariants as refusals
@@ -36,16 +36,12 @@ use Rattle.coeus.specs.declared.refusals.Refusal.TheVariants as refusals
 -- ---- the library of a file
 
 -- the file of a library
-pub record HasLibraryFile (held : Option Folder) (name : List ℕ) (library : Parts) : Type 0 where
-  pub bytes : List ℕ
-  pub file : HasFile MAX_LIBRARY held name bytes
-  pub read : library_in bytes ≡ Ok library
+abbrev pub HasLibraryFile : Option Folder → List ℕ → Parts → Type 0
+HasLibraryFile held name library = HasReading MAX_LIBRARY held name library_in (Ok library)
 
 -- the file isn't a library: the first field that is wrong or not whole is at this place
-pub record HasWrongFile (held : Option Folder) (name : List ℕ) (place : ℕ) : Type 0 where
-  pub bytes : List ℕ
-  pub file : HasFile MAX_LIBRARY held name bytes
-  pub unread : library_in bytes ≡ Err place
+abbrev pub HasWrongFile : Option Folder → List ℕ → ℕ → Type 0
+HasWrongFile held name place = HasReading MAX_LIBRARY held name library_in (Err place)
 
 -- the file of a library that passes the test
 pub record CanBeServed (held : Option Folder) (name : List ℕ) (library : Parts) : Type 0 where
@@ -62,11 +58,8 @@ pub record HasNoRoom (held : Option Folder) (name : List ℕ) (fault : TestFault
 abbrev pub OpenCause : List ℕ → FilesState → FilesState → Refusal → Type 0
 OpenCause name was is (refusals.Test fault) = HasNoRoom was.held name fault
 OpenCause name was is (refusals.Library place) = HasWrongFile was.held name place
-OpenCause name was is refusals.LibraryTooLong =
-    IsSome was.held → IsLonger MAX_LIBRARY (file_at was.held name)
-OpenCause name was is (refusals.File Read) = Fails (record { kind = Read; name = name }) was is
-OpenCause name was is refusals.Memory = Unit {0}
-OpenCause name was is refusal = ⊥
+OpenCause name was is refusals.LibraryTooLong = HasLongFile MAX_LIBRARY was.held name
+OpenCause name was is refusal = FileCause name was is refusal
 
 -- ---- the search
 
@@ -131,6 +124,19 @@ abbrev pub FindCause : LocalWords → Parts → Stream → Stream → Refusal �
 FindCause p library was is (refusals.Search fault) = IsSearched p library was is (Err fault)
 FindCause p library was is refusals.Memory = Unit {0}
 FindCause p library was is refusal = ⊥
+
+-- the text, or why there is none
+pub record Finds (p : LocalWords) (library : Parts) (was is : Stream)
+    (result : Result (List ℕ) Refusal) : Type 0 where
+  pub ok : IfOk result (HasFound p library was is)
+  pub cause : IfErr result (FindCause p library was is)
+
+-- the text of a result, where there is memory for it, and its fault is a refusal
+abbrev pub IsShown : Result Found SearchFault → Result (List ℕ) Refusal → Type 0
+IsShown (Ok found) (Ok text) = text ≡ printed found
+IsShown (Ok found) (Err refusals.Memory) = Unit {0}
+IsShown (Err fault) (Err (refusals.Search one)) = one ≡ fault
+IsShown found result = ⊥
 
 -- ---- the command
 

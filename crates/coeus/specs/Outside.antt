@@ -85,10 +85,24 @@ devices random dial port = record { random = random; dial = dial; port = port }
 abbrev pub outside : FilesState → Devices → SinkState → Outside
 outside files devices out = record { files = files; devices = devices; out = out }
 
-abbrev pub outside_of : Option Folder → ℕ → Option FileCall → Devices → Option (List ℕ) → ℕ
-    → Outside
-outside_of held faults last_failed devices bytes put_faults =
-    outside (files_state held faults last_failed) devices (sink_state bytes put_faults)
+-- ---- the same of an object, by what its trait tells of it
+
+abbrev pub files_by : {F : Type 0} → (F → Option Folder) → (F → ℕ) → (F → Option FileCall) → F
+    → FilesState
+files_by held faults last_failed f = files_state (held f) (faults f) (last_failed f)
+
+abbrev pub sink_by : {S : Type 0} → (S → Option (List ℕ)) → (S → ℕ) → S → SinkState
+sink_by bytes faults s = sink_state (bytes s) (faults s)
+
+abbrev pub dial_by : {D : Type 0} → (D → Option (List Exchange)) → (D → ℕ) → (D → Option LinkCall)
+    → (D → ℕ) → (D → Option DialCall) → D → DialState
+dial_by exchanges faults last_failed dials last_dial d =
+    dial_state (exchanges d) (faults d) (last_failed d) (dials d) (last_dial d)
+
+abbrev pub port_by : {P : Type 0} → (P → PortTells) → (P → ℕ) → (P → Option (List ℕ))
+    → (P → Option (List ℕ)) → (P → ℕ) → (P → ℕ) → P → PortState
+port_by tells faults left put take_faults put_faults p =
+    port_state (tells p) (faults p) (left p) (put p) (take_faults p) (put_faults p)
 
 -- ---- what changed
 

@@ -1,5 +1,5 @@
 -- Why the program refuses, with which status, and what it says.
-use Rattle.std.specs.Prelude.{ℕ, ◌==◌, if◌then◌else◌, List, [], ◌∷◌, ◌++◌, map, codes, decimal}
+use Rattle.std.specs.Prelude.{◌≡◌, ℕ, Result, Ok, Err, ◌==◌, if◌then◌else◌, List, [], ◌∷◌, ◌++◌, map, codes, decimal}
 use Rattle.co_link.specs.Causes.{Rose}
 use Rattle.co_link.specs.declared.files.FileKind.{FileKind}
 use Rattle.co_link.specs.declared.files.FileKind.TheVariants.{Read, Write}
@@ -188,3 +188,9 @@ line text = codes "coeus: " ++ (text ++ (10 ∷ []))
 -- the error output took this line, unless it failed
 abbrev pub Says : List ℕ → SinkState → SinkState → Type 0
 Says text was is = ¬ (Rose was.faults is.faults) → Took was is (line text)
+
+-- the status of an end; a refusal is said, and has a status of its own
+abbrev pub Finishes : List (List ℕ) → Result (Unit {0}) Refusal → SinkState → SinkState → ℕ → Type 0
+Finishes words (Ok _) was is status = (status ≡ 0) × (is ≡ was)
+Finishes words (Err refusal) was is status =
+    (status ≡ status_of refusal) × Says (text_of words refusal) was is

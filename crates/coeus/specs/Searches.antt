@@ -1,7 +1,6 @@
 -- The command `plain`: what it prints, and when it refuses.
 use Rattle.std.specs.Prelude.{◌≡◌, ◌<◌, ◌≤◌, ℕ, min, List, length, Option, Some, None, Ok, Err, IsSome}
-use Rattle.co_link.specs.Files.{Folder, file_at, IsLonger}
-use Rattle.co_link.specs.declared.files.FileKind.TheVariants.{Read}
+use Rattle.co_link.specs.Files.{Folder}
 use Rattle.co_text.specs.Terms.{terms, distinct}
 use Rattle.co_text.specs.Printed.{printed}
 use Rattle.co_text.specs.declared.limits.TheConstants.{MAX_KEYWORDS}
@@ -14,37 +13,26 @@ use Rattle.co_library.specs.declared.settings.Settings.{Settings}
 use Rattle.co_library.specs.declared.publishing.PublishFault.TheVariants.{Setting}
 use Rattle.coeus.specs.declared.limits.TheConstants.{MAX_CORPUS, DEFAULT_DEGREE, DEFAULT_SALT, DEFAULT_CHUNKS}
 use Rattle.coeus.specs.Words.{PlainWords, joined}
-use Rattle.coeus.specs.Outside.{FilesState, Fails}
+use Rattle.coeus.specs.Outside.{FilesState}
+use Rattle.coeus.specs.Access.{HasLongFile, HasReading, FileCause}
 use Rattle.coeus.specs.declared.refusals.Refusal.{Refusal}
-use Rattle.coeus.specs.declared.refusals.Refusal.TheVariants.{Corpus, CorpusTooLong, Publish, Keywords, File, Memory}
+use Rattle.coeus.specs.declared.refusals.Refusal.TheVariants.{Corpus, CorpusTooLong, Publish, Keywords, Memory}
 
 -- ---- the corpus of a file
 
--- the file has these bytes, where the files tell, and they are at most so many
-pub record HasFile (limit : ℕ) (held : Option Folder) (name bytes : List ℕ) : Type 0 where
-  pub stands : IsSome held → file_at held name ≡ Some (Some bytes)
-  pub fits : length bytes ≤ limit
-
 -- the file of a corpus, with the documents that it reads as
-pub record HasCorpus (held : Option Folder) (name : List ℕ)
-    (documents : List Document) : Type 0 where
-  pub bytes : List ℕ
-  pub file : HasFile MAX_CORPUS held name bytes
-  pub read : corpus_of bytes ≡ Ok documents
+abbrev pub HasCorpus : Option Folder → List ℕ → List Document → Type 0
+HasCorpus held name documents = HasReading MAX_CORPUS held name corpus_of (Ok documents)
 
 -- the file isn't a corpus, by this fault
-pub record HasFault (held : Option Folder) (name : List ℕ) (fault : CorpusFault) : Type 0 where
-  pub bytes : List ℕ
-  pub file : HasFile MAX_CORPUS held name bytes
-  pub unread : corpus_of bytes ≡ Err fault
+abbrev pub HasFault : Option Folder → List ℕ → CorpusFault → Type 0
+HasFault held name fault = HasReading MAX_CORPUS held name corpus_of (Err fault)
 
 -- why the corpus of a file isn't given; want of memory has no cause
 abbrev pub ReadCause : List ℕ → FilesState → FilesState → Refusal → Type 0
 ReadCause name was is (Corpus fault) = HasFault was.held name fault
-ReadCause name was is CorpusTooLong = IsSome was.held → IsLonger MAX_CORPUS (file_at was.held name)
-ReadCause name was is (File Read) = Fails (record { kind = Read; name = name }) was is
-ReadCause name was is Memory = Unit {0}
-ReadCause name was is refusal = ⊥
+ReadCause name was is CorpusTooLong = HasLongFile MAX_CORPUS was.held name
+ReadCause name was is refusal = FileCause name was is refusal
 
 -- the file is told, and is a corpus
 pub record IsToldCorpus (held : Option Folder) (name : List ℕ)

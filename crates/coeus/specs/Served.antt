@@ -22,27 +22,19 @@ pub record ServesOne (library : Parts) (s : Served) (was is : PortState) : Type 
   pub accepted : Accepted 1 was.tells is.tells
   pub faults : is.faults ≡ was.faults
 
--- a call to accept failed, which leaves all but its count, and the output
-pub record AcceptFails (was is : PortState) (out_was out_is : SinkState) : Type 0 where
+-- a call to accept failed, which leaves all but its count
+pub record AcceptFails (was is : PortState) : Type 0 where
   pub rose : Rose was.faults is.faults
   pub tells : is.tells ≡ record was.tells { accepts = one_more was.tells.accepts }
   pub put : is.put ≡ was.put
   pub take_faults : is.take_faults ≡ was.take_faults
   pub put_faults : is.put_faults ≡ was.put_faults
-  pub out : out_is ≡ out_was
 
--- the next connection was served, and the output took its line, or a front of it; or the call to
--- accept failed
-abbrev pub ServesNext : Parts → ℕ → PortState → PortState → SinkState → SinkState
-    → Result (Unit {0}) Refusal → Type 0
-ServesNext library number was is out_was out_is (Ok _) =
-    (s : Served) × ServesOne library s was is × Took out_was out_is (connection_line number s)
-    × (out_is.faults ≡ out_was.faults)
-ServesNext library number was is out_was out_is (Err refusals.Output) =
-    (s : Served) × ServesOne library s was is × TookFront out_was out_is (connection_line number s)
-ServesNext library number was is out_was out_is (Err refusals.Port) =
-    AcceptFails was is out_was out_is
-ServesNext library number was is out_was out_is (Err refusal) = ⊥
+-- the next connection was accepted and served, or the call to accept failed
+abbrev pub ServesNext : Parts → PortState → PortState → Result Served Refusal → Type 0
+ServesNext library was is (Ok s) = ServesOne library s was is
+ServesNext library was is (Err refusals.Port) = AcceptFails was is
+ServesNext library was is (Err refusal) = ⊥
 
 -- these connections were accepted and served, and the output took their lines
 pub record ServedSoFar (library : Parts) (served : List Served) (was is : PortState)

@@ -1,18 +1,21 @@
 //! The command `local`: a search over a link to the library's own session.
-ghost use Rattle.std.specs.Prelude.{◌≡◌, ◌≤◌, IfOk, IfErr};
+ghost use Rattle.std.specs.Prelude.{◌≡◌, IfOk, IfErr};
 ghost use Rattle.coeus.specs.Words.{SpokenLocal};
 ghost use Rattle.coeus.specs.Commands.{local_shown, IsWithinRanges};
-ghost use Rattle.coeus.specs.Outside.{DialState, PortState, files_state, devices, outside_of};
-ghost use Rattle.coeus.specs.Locals.{HasLibraryFile, CanBeServed, OpenCause, IsSearched};
-ghost use Rattle.coeus.specs.Locals.{HasFound, FindCause, LocalAnswer, LocalCause};
+ghost use Rattle.coeus.specs.Outside.{DialState, PortState, files_by, sink_by};
+ghost use Rattle.coeus.specs.Outside.{devices, outside};
+ghost use Rattle.coeus.specs.Access.{Opens};
+ghost use Rattle.coeus.specs.Locals.{HasLibraryFile, CanBeServed, OpenCause};
+ghost use Rattle.coeus.specs.Locals.{IsShown, Finds, LocalAnswer, LocalCause};
 ghost use Rattle.coeus.specs.Runs.{Ended};
 
+use crate::access::{put_answer, read_file};
 use crate::limits::MAX_LIBRARY;
 use crate::refusals::Refusal;
 use crate::words::{LocalCommand, join};
 use co_client::{SearchFault, search};
 use co_library::{Library, LibraryFault};
-use co_link::{Bytes, FileFault, FileKind, Files, Sink};
+use co_link::{Bytes, Files, Sink};
 use co_noise::test;
 use co_server::{Loaded, LocalLink, Runs};
 use co_text::{Found, render};
@@ -21,20 +24,10 @@ use std::alloc::Global;
 
 /// The library of a file.
 fn read_library<F: Files>(alloc: Global, name: &str, files: &mut F) -> Result<Library, Refusal>
-    ensures ok { IfOk result (HasLibraryFile (F.held files.old) name.now) }
-    ensures cause { let was = files_state
-        (F.held files.old) (F.faults files.old) (F.last_failed files.old) in
-        let is = files_state (F.held files.new) (F.faults files.new) (F.last_failed files.new) in
-        IfErr result (OpenCause name.now was is) }
-    ensures files { F.held files.new ≡ F.held files.old }
-    ensures later { F.faults files.old ≤ F.faults files.new }
+    ensures { let at = files_by F.held F.faults F.last_failed in
+        Opens HasLibraryFile OpenCause name.now (at files.old) (at files.new) result }
 {
-    let bytes = match files.read(name, MAX_LIBRARY) {
-        Ok(bytes) => bytes,
-        Err(FileFault::Failed) => return Err(Refusal::File(FileKind::Read)),
-        Err(FileFault::TooLong) => return Err(Refusal::LibraryTooLong),
-        Err(FileFault::OutOfMemory) => return Err(Refusal::Memory),
-    };
+    let bytes = read_file(name, MAX_LIBRARY, files)?.ok_or(Refusal::LibraryTooLong)?;
     match Library::read(alloc, bytes.as_slice()) {
         Ok(library) => Ok(library),
         Err(LibraryFault::BadLibrary { place }) => Err(Refusal::Library(place)),
@@ -44,13 +37,8 @@ fn read_library<F: Files>(alloc: Global, name: &str, files: &mut F) -> Result<Li
 
 /// The library of a file, made ready for replies, where it passes the test.
 pub fn load<F: Files>(alloc: Global, name: &str, files: &mut F) -> Result<Loaded, Refusal>
-    ensures ok { IfOk result (CanBeServed (F.held files.old) name.now) }
-    ensures cause { let was = files_state
-        (F.held files.old) (F.faults files.old) (F.last_failed files.old) in
-        let is = files_state (F.held files.new) (F.faults files.new) (F.last_failed files.new) in
-        IfErr result (OpenCause name.now was is) }
-    ensures files { F.held files.new ≡ F.held files.old }
-    ensures later { F.faults files.old ≤ F.faults files.new }
+    ensures { let at = files_by F.held F.faults F.last_failed in
+        Opens CanBeServed OpenCause name.now (at files.old) (at files.new) result }
 {
     let library = read_library(alloc, name, files)?;
     match test(library.shape()) {
@@ -62,30 +50,20 @@ pub fn load<F: Files>(alloc: Global, name: &str, files: &mut F) -> Result<Loaded
     }
 }
 
-/// What a search finds over a link to a session of its own.
-fn ask<T: Runs, R: Rng>(
-    rt: &T,
-    alloc: Global,
-    loaded: &Loaded,
-    command: &LocalCommand<'_>,
-    rng: &mut R,
-) -> Result<Found, SearchFault>
-    requires shared { T.is_shared }
-    requires ranges { IsWithinRanges command.now }
-    ensures { IsSearched (local_shown command.now) loaded.now
-        (R.stream rng.old) (R.stream rng.new) result }
+// The text of what was found.
+fn shown(alloc: Global, found: Result<Found, SearchFault>) -> Result<Bytes, Refusal>
+    ensures { IsShown found result }
 {
-    let _ = loaded.library();
-    let Ok(query) = join(alloc, command.query) else {
-        return Err(SearchFault::OutOfMemory);
-    };
-    let mut link = LocalLink::new(rt, alloc, loaded, command.workers);
-    let found = search(alloc, &mut link, rng, query.as_str(), command.pick);
-    let _ = link.exchanges();
-    found
+    match found {
+        Ok(found) => match render(alloc, &found) {
+            Ok(text) => Ok(text),
+            Err(_) => Err(Refusal::Memory),
+        },
+        Err(fault) => Err(Refusal::Search(fault)),
+    }
 }
 
-/// The text of what a search finds.
+/// The text of what a search finds over a link to a session of its own.
 pub fn answer<T: Runs, R: Rng>(
     rt: &T,
     alloc: Global,
@@ -95,18 +73,17 @@ pub fn answer<T: Runs, R: Rng>(
 ) -> Result<Bytes, Refusal>
     requires shared { T.is_shared }
     requires ranges { IsWithinRanges command.now }
-    ensures ok { IfOk result (HasFound (local_shown command.now) loaded.now
-        (R.stream rng.old) (R.stream rng.new)) }
-    ensures cause { IfErr result (FindCause (local_shown command.now) loaded.now
-        (R.stream rng.old) (R.stream rng.new)) }
+    ensures { Finds (local_shown command.now) loaded.now (R.stream rng.old) (R.stream rng.new)
+        result }
 {
-    match ask(rt, alloc, loaded, command, rng) {
-        Ok(found) => match render(alloc, &found) {
-            Ok(text) => Ok(text),
-            Err(_) => Err(Refusal::Memory),
-        },
-        Err(fault) => Err(Refusal::Search(fault)),
-    }
+    let _ = loaded.library();
+    let Ok(query) = join(alloc, command.query) else {
+        return Err(Refusal::Memory);
+    };
+    let mut link = LocalLink::new(rt, alloc, loaded, command.workers);
+    let found = search(alloc, &mut link, rng, query.as_str(), command.pick);
+    let _ = link.exchanges();
+    shown(alloc, found)
 }
 
 /// The text of what a search finds in the library of a file.
@@ -121,10 +98,8 @@ fn find<T: Runs, F: Files, R: Rng>(
     requires ranges { IsWithinRanges command.now }
     ensures ok { IfOk result (LocalAnswer (local_shown command.now) (F.held files.old)
         (R.stream rng.old) (R.stream rng.new)) }
-    ensures cause { let was = files_state
-        (F.held files.old) (F.faults files.old) (F.last_failed files.old) in
-        let is = files_state (F.held files.new) (F.faults files.new) (F.last_failed files.new) in
-        IfErr result (LocalCause (local_shown command.now) was is
+    ensures cause { let at = files_by F.held F.faults F.last_failed in
+        IfErr result (LocalCause (local_shown command.now) (at files.old) (at files.new)
         (R.stream rng.old) (R.stream rng.new)) }
     ensures files { F.held files.new ≡ F.held files.old }
 {
@@ -144,16 +119,13 @@ pub fn local<T: Runs, F: Files, R: Rng, O: Sink>(
 ) -> Result<(), Refusal>
     requires shared { T.is_shared }
     requires ranges { IsWithinRanges command.now }
-    ensures { (dial : DialState) (port : PortState) →
-        Ended (SpokenLocal (local_shown command.now))
-        (outside_of (F.held files.old) (F.faults files.old) (F.last_failed files.old)
-        (devices (R.stream rng.old) dial port) (O.put_so_far out.old) (O.faults out.old))
-        (outside_of (F.held files.new) (F.faults files.new) (F.last_failed files.new)
-        (devices (R.stream rng.new) dial port) (O.put_so_far out.new) (O.faults out.new)) result }
+    ensures { let files_at = files_by F.held F.faults F.last_failed in
+        let out_at = sink_by O.put_so_far O.faults in
+        (dial : DialState) (port : PortState) → Ended (SpokenLocal (local_shown command.now))
+        (outside (files_at files.old) (devices (R.stream rng.old) dial port) (out_at out.old))
+        (outside (files_at files.new) (devices (R.stream rng.new) dial port) (out_at out.new))
+        result }
 {
     let text = find(rt, alloc, command, files, rng)?;
-    match out.put(text.as_slice()) {
-        Ok(()) => Ok(()),
-        Err(_) => Err(Refusal::Output),
-    }
+    put_answer(text.as_slice(), out)
 }

@@ -9,6 +9,7 @@
 //! (co_client).
 #![tactic(auto)]
 
+mod access;
 mod limits;
 mod local;
 mod making;

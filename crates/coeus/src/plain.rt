@@ -1,21 +1,23 @@
 //! The command `plain`: plain search over the documents of a corpus file.
-ghost use Rattle.std.specs.Prelude.{◌≡◌, ◌≤◌, length, IfOk, IfErr, OnOk, ℕ};
+ghost use Rattle.std.specs.Prelude.{◌≡◌, ◌≤◌, length, IfOk, IfErr, ℕ};
 ghost use Rattle.co_text.specs.Terms.{distinct};
 ghost use Rattle.co_text.specs.Printed.{printed};
 ghost use Rattle.co_text.specs.declared.limits.TheConstants.{MAX_KEYWORDS};
 ghost use Rattle.co_tfidf.specs.Found.{found, IsIndex};
 ghost use Rattle.coeus.specs.Words.{SpokenPlain};
 ghost use Rattle.coeus.specs.Commands.{plain_shown};
-ghost use Rattle.coeus.specs.Outside.{Devices, files_state, outside_of};
+ghost use Rattle.coeus.specs.Outside.{Devices, files_by, sink_by, outside};
+ghost use Rattle.coeus.specs.Access.{Opens};
 ghost use Rattle.coeus.specs.Searches.{HasCorpus, ReadCause, HasText, TextCause, plain_settings};
 ghost use Rattle.coeus.specs.Runs.{Ended};
 
+use crate::access::{put_answer, read_file};
 use crate::limits::{DEFAULT_CHUNKS, DEFAULT_DEGREE, DEFAULT_SALT, MAX_CORPUS};
 use crate::refusals::Refusal;
 use crate::words::{PlainCommand, join};
 use co_corpus::{Corpus, CorpusFault, read_corpus};
 use co_library::{PublishFault, Settings};
-use co_link::{Bytes, FileFault, FileKind, Files, Sink};
+use co_link::{Bytes, Files, Sink};
 use co_text::{Found, QueryFault, Terms, query_terms, render};
 use co_tfidf::{Index, build_index, plain_search};
 use std::alloc::{AllocError, Global};
@@ -70,20 +72,10 @@ fn search(
 
 /// The corpus of a file.
 pub fn read_documents<F: Files>(alloc: Global, name: &str, files: &mut F) -> Result<Corpus, Refusal>
-    ensures ok { IfOk result (HasCorpus (F.held files.old) name.now) }
-    ensures cause { let was = files_state
-        (F.held files.old) (F.faults files.old) (F.last_failed files.old) in
-        let is = files_state (F.held files.new) (F.faults files.new) (F.last_failed files.new) in
-        IfErr result (ReadCause name.now was is) }
-    ensures files { F.held files.new ≡ F.held files.old }
-    ensures later { F.faults files.old ≤ F.faults files.new }
+    ensures { let at = files_by F.held F.faults F.last_failed in
+        Opens HasCorpus ReadCause name.now (at files.old) (at files.new) result }
 {
-    let bytes = match files.read(name, MAX_CORPUS) {
-        Ok(bytes) => bytes,
-        Err(FileFault::Failed) => return Err(Refusal::File(FileKind::Read)),
-        Err(FileFault::TooLong) => return Err(Refusal::CorpusTooLong),
-        Err(FileFault::OutOfMemory) => return Err(Refusal::Memory),
-    };
+    let bytes = read_file(name, MAX_CORPUS, files)?.ok_or(Refusal::CorpusTooLong)?;
     match read_corpus(alloc, bytes.as_slice()) {
         Ok(corpus) => Ok(corpus),
         Err(CorpusFault::OutOfMemory) => Err(Refusal::Memory),
@@ -122,16 +114,13 @@ pub fn plain<F: Files, O: Sink>(
     files: &mut F,
     out: &mut O,
 ) -> Result<(), Refusal>
-    ensures { (devices : Devices) → Ended (SpokenPlain (plain_shown command.now))
-        (outside_of (F.held files.old) (F.faults files.old) (F.last_failed files.old)
-        devices (O.put_so_far out.old) (O.faults out.old))
-        (outside_of (F.held files.new) (F.faults files.new) (F.last_failed files.new)
-        devices (O.put_so_far out.new) (O.faults out.new)) result }
+    ensures { let files_at = files_by F.held F.faults F.last_failed in
+        let out_at = sink_by O.put_so_far O.faults in
+        (devices : Devices) → Ended (SpokenPlain (plain_shown command.now))
+        (outside (files_at files.old) devices (out_at out.old))
+        (outside (files_at files.new) devices (out_at out.new)) result }
 {
     let corpus = read_documents(alloc, command.corpus, files)?;
     let text = answer(alloc, &corpus, command)?;
-    match out.put(text.as_slice()) {
-        Ok(()) => Ok(()),
-        Err(_) => Err(Refusal::Output),
-    }
+    put_answer(text.as_slice(), out)
 }

@@ -2,10 +2,11 @@
 ghost use Rattle.std.specs.Prelude.{◌≡◌, IfOk, string_bytes};
 ghost use Rattle.coeus.specs.Words.{SpokenImport};
 ghost use Rattle.coeus.specs.Commands.{import_shown};
-ghost use Rattle.coeus.specs.Outside.{Devices, outside_of};
+ghost use Rattle.coeus.specs.Outside.{Devices, files_by, sink_by, outside};
 ghost use Rattle.coeus.specs.Imports.{import_text};
 ghost use Rattle.coeus.specs.Runs.{Ended};
 
+use crate::access::put_answer;
 use crate::plain::read_documents;
 use crate::refusals::Refusal;
 use crate::words::ImportCommand;
@@ -36,11 +37,11 @@ pub fn import<F: Files, O: Sink>(
     files: &mut F,
     out: &mut O,
 ) -> Result<(), Refusal>
-    ensures { (devices : Devices) → Ended (SpokenImport (import_shown command.now))
-        (outside_of (F.held files.old) (F.faults files.old) (F.last_failed files.old)
-        devices (O.put_so_far out.old) (O.faults out.old))
-        (outside_of (F.held files.new) (F.faults files.new) (F.last_failed files.new)
-        devices (O.put_so_far out.new) (O.faults out.new)) result }
+    ensures { let files_at = files_by F.held F.faults F.last_failed in
+        let out_at = sink_by O.put_so_far O.faults in
+        (devices : Devices) → Ended (SpokenImport (import_shown command.now))
+        (outside (files_at files.old) devices (out_at out.old))
+        (outside (files_at files.new) devices (out_at out.new)) result }
 {
     let corpus = read_documents(alloc, command.corpus, files)?;
     let _ = corpus.as_slice();
@@ -61,8 +62,5 @@ pub fn import<F: Files, O: Sink>(
         Err(FileFault::TooLong) => unreachable!(),
         Err(FileFault::OutOfMemory) => return Err(Refusal::Memory),
     }
-    match out.put(line.as_bytes()) {
-        Ok(()) => Ok(()),
-        Err(_) => Err(Refusal::Output),
-    }
+    put_answer(line.as_bytes(), out)
 }

@@ -6,7 +6,7 @@ ghost use Rattle.co_text.specs.Printed.{printed};
 ghost use Rattle.co_tfidf.specs.Found.{found, IsIndex};
 ghost use Rattle.coeus.specs.Words.{SpokenRehearse, joined};
 ghost use Rattle.coeus.specs.Commands.{local_shown, IsWithinRanges, IsWithinRehearsals};
-ghost use Rattle.coeus.specs.Outside.{FilesState, DialState, PortState, outside, devices, sink_state};
+ghost use Rattle.coeus.specs.Outside.{FilesState, DialState, PortState, outside, devices, sink_by};
 ghost use Rattle.coeus.specs.Generator.{documents_of, queries_of};
 ghost use Rattle.coeus.specs.Rehearsals.{IsMadeLibrary, RehearseAnswer, RehearseCause};
 ghost use Rattle.coeus.specs.Rehearsals.{rehearse_lines};
@@ -14,6 +14,7 @@ ghost use Rattle.coeus.specs.Trials.{IsReady, ReadyCause, IsJudged, JudgeCause};
 ghost use Rattle.coeus.specs.Trials.{Tries, AreTried, StopCause};
 ghost use Rattle.coeus.specs.Runs.{Ended};
 
+use crate::access::put_answer;
 use crate::local::answer;
 use crate::making::{Made, QUERIES, make};
 use crate::refusals::Refusal;
@@ -286,19 +287,12 @@ pub fn rehearse<T: Runs, R: Rng, O: Sink>(
 ) -> Result<(), Refusal>
     requires shared { T.is_shared }
     requires ranges { IsWithinRehearsals command.now }
-    ensures { (files : FilesState) (dial : DialState) (port : PortState) →
+    ensures { let at = sink_by O.put_so_far O.faults in
+        (files : FilesState) (dial : DialState) (port : PortState) →
         Ended (SpokenRehearse command.now)
-        (outside files (devices (R.stream rng.old) dial port)
-        (sink_state (O.put_so_far out.old) (O.faults out.old)))
-        (outside files (devices (R.stream rng.new) dial port)
-        (sink_state (O.put_so_far out.new) (O.faults out.new))) result }
+        (outside files (devices (R.stream rng.old) dial port) (at out.old))
+        (outside files (devices (R.stream rng.new) dial port) (at out.new)) result }
 {
-    let text = match rehearsal(rt, alloc, command, rng) {
-        Ok(text) => text,
-        Err(refusal) => return Err(refusal),
-    };
-    match out.put(text.as_bytes()) {
-        Ok(()) => Ok(()),
-        Err(_) => Err(Refusal::Output),
-    }
+    let text = rehearsal(rt, alloc, command, rng)?;
+    put_answer(text.as_bytes(), out)
 }

@@ -2,11 +2,11 @@
 ghost use Rattle.std.specs.Prelude.{◌≡◌, ◌≤◌, IfOk, IfErr};
 ghost use Rattle.coeus.specs.Words.{SpokenSearch};
 ghost use Rattle.coeus.specs.Commands.{search_shown, IsWithinSearching};
-ghost use Rattle.coeus.specs.Outside.{FilesState, PortState, outside};
-ghost use Rattle.coeus.specs.Outside.{dial_state, sink_state, devices};
+ghost use Rattle.coeus.specs.Outside.{FilesState, PortState, dial_by, sink_by, devices, outside};
 ghost use Rattle.coeus.specs.Remote.{Asked};
 ghost use Rattle.coeus.specs.Runs.{Ended};
 
+use crate::access::put_answer;
 use crate::refusals::Refusal;
 use crate::words::{SearchCommand, join};
 use co_client::search;
@@ -23,13 +23,10 @@ fn ask<D: Dial, R: Rng>(
     rng: &mut R,
 ) -> Result<Found, Refusal>
     requires { IsWithinSearching command.now }
-    ensures { (port : PortState) →
-        let dial_was = dial_state (D.exchanges dial.old) (D.faults dial.old)
-        (D.last_failed dial.old) (D.dials dial.old) (D.last_dial dial.old) in
-        let dial_is = dial_state (D.exchanges dial.new) (D.faults dial.new)
-        (D.last_failed dial.new) (D.dials dial.new) (D.last_dial dial.new) in
-        Asked (search_shown command.now) (devices (R.stream rng.old) dial_was port)
-        (devices (R.stream rng.new) dial_is port) result }
+    ensures { let at = dial_by D.exchanges D.faults D.last_failed D.dials D.last_dial in
+        (port : PortState) → Asked (search_shown command.now)
+        (devices (R.stream rng.old) (at dial.old) port)
+        (devices (R.stream rng.new) (at dial.new) port) result }
 {
     let Ok(query) = join(alloc, command.query) else {
         return Err(Refusal::Memory);
@@ -54,26 +51,16 @@ pub fn search_remote<D: Dial, R: Rng, O: Sink>(
     out: &mut O,
 ) -> Result<(), Refusal>
     requires { IsWithinSearching command.now }
-    ensures { (files : FilesState) (port : PortState) →
-        let dial_was = dial_state (D.exchanges dial.old) (D.faults dial.old)
-        (D.last_failed dial.old) (D.dials dial.old) (D.last_dial dial.old) in
-        let dial_is = dial_state (D.exchanges dial.new) (D.faults dial.new)
-        (D.last_failed dial.new) (D.dials dial.new) (D.last_dial dial.new) in
-        Ended (SpokenSearch (search_shown command.now))
-        (outside files (devices (R.stream rng.old) dial_was port)
-        (sink_state (O.put_so_far out.old) (O.faults out.old)))
-        (outside files (devices (R.stream rng.new) dial_is port)
-        (sink_state (O.put_so_far out.new) (O.faults out.new))) result }
+    ensures { let dial_at = dial_by D.exchanges D.faults D.last_failed D.dials D.last_dial in
+        let out_at = sink_by O.put_so_far O.faults in
+        (files : FilesState) (port : PortState) → Ended (SpokenSearch (search_shown command.now))
+        (outside files (devices (R.stream rng.old) (dial_at dial.old) port) (out_at out.old))
+        (outside files (devices (R.stream rng.new) (dial_at dial.new) port) (out_at out.new))
+        result }
 {
-    let found = match ask(alloc, command, dial, rng) {
-        Ok(found) => found,
-        Err(refusal) => return Err(refusal),
-    };
+    let found = ask(alloc, command, dial, rng)?;
     let Ok(text) = render(alloc, &found) else {
         return Err(Refusal::Memory);
     };
-    match out.put(text.as_slice()) {
-        Ok(()) => Ok(()),
-        Err(_) => Err(Refusal::Output),
-    }
+    put_answer(text.as_slice(), out)
 }

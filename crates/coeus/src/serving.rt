@@ -3,13 +3,13 @@ ghost use Rattle.std.specs.Prelude.{◌≡◌, ◌≤◌, ◌<◌, ◌+◌, ◌+
 ghost use Rattle.co_http.specs.ShortText.{text_of};
 ghost use Rattle.coeus.specs.Words.{SpokenServe};
 ghost use Rattle.coeus.specs.Commands.{serve_shown, IsWithinServing};
-ghost use Rattle.coeus.specs.Outside.{port_state, sink_state};
-ghost use Rattle.coeus.specs.Outside.{DialState, devices, outside_of};
+ghost use Rattle.coeus.specs.Outside.{DialState, files_by, port_by, sink_by, devices, outside};
 ghost use Rattle.coeus.specs.Connections.{end_text, connection_line};
 ghost use Rattle.coeus.specs.Served.{ServesNext, ServesSome};
 ghost use Rattle.coeus.specs.Runs.{Ended as CommandEnded};
 ghost use Rattle.rand_core.specs.Stream.{Stream};
 
+use crate::access::put_answer;
 use crate::local::load;
 use crate::refusals::Refusal;
 use crate::words::ServeCommand;
@@ -58,37 +58,26 @@ fn connection_line(number: u32, served: &Served) -> ShortText
     text
 }
 
-// Accepts the next connection, serves it, and puts its line.
-fn serve_next<T: Threads + Sync, P: Port, O: Sink>(
+// Accepts the next connection, and serves it.
+fn serve_next<T: Threads + Sync, P: Port>(
     rt: &T,
     alloc: Global,
     loaded: &Loaded,
-    number: u32,
     workers: u32,
     port: &mut P,
-    out: &mut O,
-) -> Result<(), Refusal>
+) -> Result<Served, Refusal>
     requires listens { (P.tells port.old).listening ≡ true }
     requires workers { (1 ≤ workers) × (workers ≤ 64) }
-    ensures { let port_was = port_state (P.tells port.old) (P.Port.faults port.old) (P.left port.old)
-        (P.put_so_far port.old) (P.Source.faults port.old) (P.Sink.faults port.old) in
-        let port_is = port_state (P.tells port.new) (P.Port.faults port.new) (P.left port.new)
-        (P.put_so_far port.new) (P.Source.faults port.new) (P.Sink.faults port.new) in
-        let out_was = sink_state (O.put_so_far out.old) (O.faults out.old) in
-        let out_is = sink_state (O.put_so_far out.new) (O.faults out.new) in
-        ServesNext loaded.now number port_was port_is out_was out_is result }
+    ensures { let at = port_by P.tells P.Port.faults P.left P.put_so_far
+        P.Source.faults P.Sink.faults in
+        ServesNext loaded.now (at port.old) (at port.new) result }
 {
     match port.accept() {
         Ok(()) => {}
         Err(_) => return Err(Refusal::Port),
     }
     let mut steps = Steps::begin();
-    let served = serve_connection(rt, alloc, loaded, port, workers, &OpenGate, &mut steps);
-    let line = connection_line(number, &served);
-    match out.put(line.as_slice()) {
-        Ok(()) => Ok(()),
-        Err(_) => Err(Refusal::Output),
-    }
+    Ok(serve_connection(rt, alloc, loaded, port, workers, &OpenGate, &mut steps))
 }
 
 // Serves so many connections, and puts the line of each as it ends.
@@ -103,21 +92,18 @@ fn serve_all<T: Threads + Sync, P: Port, O: Sink>(
 ) -> Result<(), Refusal>
     requires listens { (P.tells port.old).listening ≡ true }
     requires workers { (1 ≤ workers) × (workers ≤ 64) }
-    ensures { let port_was = port_state (P.tells port.old) (P.Port.faults port.old) (P.left port.old)
-        (P.put_so_far port.old) (P.Source.faults port.old) (P.Sink.faults port.old) in
-        let port_is = port_state (P.tells port.new) (P.Port.faults port.new) (P.left port.new)
-        (P.put_so_far port.new) (P.Source.faults port.new) (P.Sink.faults port.new) in
-        let out_was = sink_state (O.put_so_far out.old) (O.faults out.old) in
-        let out_is = sink_state (O.put_so_far out.new) (O.faults out.new) in
-        ServesSome loaded.now connections port_was port_is out_was out_is result }
+    ensures { let port_at = port_by P.tells P.Port.faults P.left P.put_so_far
+        P.Source.faults P.Sink.faults in
+        let out_at = sink_by O.put_so_far O.faults in
+        ServesSome loaded.now connections (port_at port.old) (port_at port.new)
+        (out_at out.old) (out_at out.new) result }
 {
     let mut number = 0;
     'serving: while number < connections {
-        match serve_next(rt, alloc, loaded, number + 1, workers, port, out) {
-            Ok(()) => {}
-            Err(refusal) => return Err(refusal),
-        }
+        let served = serve_next(rt, alloc, loaded, workers, port)?;
         number += 1;
+        let line = connection_line(number, &served);
+        put_answer(line.as_slice(), out)?;
     }
     Ok(())
 }
@@ -134,21 +120,16 @@ pub fn serve<T: Threads + Sync, F: Files, P: Port, O: Sink>(
     out: &mut O,
 ) -> Result<(), Refusal>
     requires { IsWithinServing command.now }
-    ensures { (random : Stream) (dial : DialState) →
-        let port_was = port_state (P.tells port.old) (P.Port.faults port.old) (P.left port.old)
-        (P.put_so_far port.old) (P.Source.faults port.old) (P.Sink.faults port.old) in
-        let port_is = port_state (P.tells port.new) (P.Port.faults port.new) (P.left port.new)
-        (P.put_so_far port.new) (P.Source.faults port.new) (P.Sink.faults port.new) in
-        CommandEnded (SpokenServe (serve_shown command.now))
-        (outside_of (F.held files.old) (F.faults files.old) (F.last_failed files.old)
-        (devices random dial port_was) (O.put_so_far out.old) (O.faults out.old))
-        (outside_of (F.held files.new) (F.faults files.new) (F.last_failed files.new)
-        (devices random dial port_is) (O.put_so_far out.new) (O.faults out.new)) result }
+    ensures { let files_at = files_by F.held F.faults F.last_failed in
+        let port_at = port_by P.tells P.Port.faults P.left P.put_so_far
+        P.Source.faults P.Sink.faults in
+        let out_at = sink_by O.put_so_far O.faults in
+        (random : Stream) (dial : DialState) → CommandEnded (SpokenServe (serve_shown command.now))
+        (outside (files_at files.old) (devices random dial (port_at port.old)) (out_at out.old))
+        (outside (files_at files.new) (devices random dial (port_at port.new)) (out_at out.new))
+        result }
 {
-    let loaded = match load(alloc, command.library, files) {
-        Ok(loaded) => loaded,
-        Err(refusal) => return Err(refusal),
-    };
+    let loaded = load(alloc, command.library, files)?;
     match port.listen(command.port) {
         Ok(()) => {}
         Err(_) => return Err(Refusal::Port),

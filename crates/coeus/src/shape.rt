@@ -2,10 +2,11 @@
 ghost use Rattle.std.specs.Prelude.{◌≡◌, ◌++◌, [], ◌∷◌, IfOk, OnOk, codes};
 ghost use Rattle.co_noise.specs.Bounds.{test_of};
 ghost use Rattle.coeus.specs.Words.{SpokenShape};
-ghost use Rattle.coeus.specs.Outside.{FilesState, Devices, sink_state, outside};
+ghost use Rattle.coeus.specs.Outside.{FilesState, Devices, sink_by, outside};
 ghost use Rattle.coeus.specs.ShapeLines.{number_line, test_word, shape_text};
 ghost use Rattle.coeus.specs.Runs.{Ended};
 
+use crate::access::put_answer;
 use crate::refusals::Refusal;
 use co_link::{Bytes, Sink};
 use co_noise::{
@@ -71,17 +72,14 @@ pub fn shape_text(alloc: Global, shape: &Shape) -> Result<Bytes, AllocError>
 
 /// Puts the lines of a shape. It has nothing to do with files or devices.
 pub fn show<O: Sink>(alloc: Global, shape: &Shape, out: &mut O) -> Result<(), Refusal>
-    ensures { (files : FilesState) (devices : Devices) →
-        let was = outside files devices (sink_state (O.put_so_far out.old) (O.faults out.old)) in
-        let is = outside files devices (sink_state (O.put_so_far out.new) (O.faults out.new)) in
-        Ended (SpokenShape shape.now) was is result }
+    ensures { let at = sink_by O.put_so_far O.faults in
+        (files : FilesState) (devices : Devices) → Ended (SpokenShape shape.now)
+        (outside files devices (at out.old)) (outside files devices (at out.new)) result }
 {
     let Ok(text) = shape_text(alloc, shape) else {
         return Err(Refusal::Memory);
     };
-    if out.put(text.as_slice()).is_err() {
-        return Err(Refusal::Output);
-    }
+    put_answer(text.as_slice(), out)?;
     match test(shape) {
         Ok(_) => Ok(()),
         Err(fault) => Err(Refusal::Test(fault)),

@@ -42,6 +42,7 @@ fn put_search<R: Runs>(
     }
 }
 
+/// A search over a link that makes all its exchanges, or over one whose fourth exchange fails.
 fn put_drawn<R: Runs, W: Stand>(
     rt: &R,
     line: &mut String,
@@ -52,47 +53,21 @@ fn put_drawn<R: Runs, W: Stand>(
     requires { R.is_shared }
 {
     match case.call() {
-        "search" | "trace" => put_whole(rt, line, case, loaded, words)?,
-        "cut" => put_cut(rt, line, case, loaded, words)?,
+        "search" | "trace" => {
+            let mut link = LocalLink::new(rt, case.alloc, loaded, 2);
+            put_end(line, case, &mut link, words)?;
+            put_exchanges(case, line, link.exchanges())?;
+        }
+        "cut" => {
+            let fourth = FailingCalls::new(vec![in case.alloc; 3; 1]?);
+            let link = LocalLink::new(rt, case.alloc, loaded, 2);
+            let mut cut = FailNth::new(case.alloc, link, fourth);
+            put_end(line, case, &mut cut, words)?;
+            put_exchanges(case, line, cut.inner().exchanges())?;
+        }
         _ => return Err(BadCase::Unfit),
     }
     Ok(put(line, words.stand() as u128)?)
-}
-
-/// A search over a link that makes all its exchanges.
-fn put_whole<R: Runs, W: Stand>(
-    rt: &R,
-    line: &mut String,
-    case: Case,
-    loaded: &Loaded,
-    words: &mut W,
-) -> Result<(), BadCase>
-    requires { R.is_shared }
-{
-    let mut link = LocalLink::new(rt, case.alloc, loaded, 2);
-    match put_end(line, case, &mut link, words) {
-        Ok(()) => Ok(put_exchanges(case, line, link.exchanges())?),
-        Err(bad) => Err(bad),
-    }
-}
-
-/// A search over a link whose fourth exchange fails.
-fn put_cut<R: Runs, W: Stand>(
-    rt: &R,
-    line: &mut String,
-    case: Case,
-    loaded: &Loaded,
-    words: &mut W,
-) -> Result<(), BadCase>
-    requires { R.is_shared }
-{
-    let fourth = FailingCalls::new(vec![in case.alloc; 3; 1]?);
-    let link = LocalLink::new(rt, case.alloc, loaded, 2);
-    let mut cut = FailNth::new(case.alloc, link, fourth);
-    match put_end(line, case, &mut cut, words) {
-        Ok(()) => Ok(put_exchanges(case, line, cut.inner().exchanges())?),
-        Err(bad) => Err(bad),
-    }
 }
 
 /// How a search ends.

@@ -1,49 +1,13 @@
-use Rattle.std.proofs.Common.{◌≡◌, ℕ, ◌*◌, ap, subst, arith, List}
-use Rattle.co_link.specs.declared.messages.Request.{Request}
+use Rattle.std.proofs.Common.{arith}
 use Rattle.co_link.specs.declared.messages.Target.TheVariants.{Document}
-use Rattle.co_rounds.specs.Answers.{reply_with}
-use Rattle.co_wire.specs.Lengths.{reply_size}
-use Rattle.co_client.specs.Openings.{AreSpelled, IsRefusedBody}
-use Rattle.co_client.specs.Rounds.{Comes, RoundFails, queries_request, bin_messages}
-use Rattle.co_client.proofs.Unanswered.{ask-round, body-round}
+use Rattle.co_client.specs.Rounds.{queries_request}
+use Rattle.co_client.proofs.Unanswered.{gives-asked, fails-asked}
 use Rattle.co_client.proofs.fetching.fetch.Goals as goal
 
-pub returns-in-Err-clause-refused : goal.returns-in-Err-clause-refused
+pub returns-clause-came : goal.returns-clause-came
 unfolding queries_request
-returns-in-Err-clause-refused g c =
-    let s = c.args.reader.now.shape in
-    let was = g.K.Link.exchanges c.args.link.now in
-    let now = g.K.Link.exchanges c.ask.new.link in
-    let asked : Request = record { target = Document; body = c.in-Ok.query } in
-    let same : asked ≡ queries_request Document c.args.reader.now.secret (bin_messages s c.args.bin) (g.R.Rng.stream c.args.rng.now) = ap (λ (b : List ℕ). record { target = Document; body = b }) c.in-Ok.ensures.body in
-    subst (λ (r : Request). RoundFails (reply_size s Document) was now r c.in-Err.fault) same (ask-round (reply_size s Document) was now asked c.in-Err.fault c.in-Err.ensures.refused)
+returns-clause-came g c = gives-asked c.args.reader.now.shape.degree _ _ _ _ Document c.in-Ok.query _ c.ask_ciphers.result (grind arith) c.in-Ok.ensures.body c.ask_ciphers.ensures.came
 
-pub returns-in-Ok-check_reply-clause-came : goal.returns-in-Ok-check_reply-clause-came
+pub returns-clause-refused : goal.returns-clause-refused
 unfolding queries_request
-returns-in-Ok-check_reply-clause-came g c =
-    let s = c.args.reader.now.shape in
-    let was = g.K.Link.exchanges c.args.link.now in
-    let now = g.K.Link.exchanges c.ask.new.link in
-    let asked : Request = record { target = Document; body = c.in-Ok.query } in
-    let same : asked ≡ queries_request Document c.args.reader.now.secret (bin_messages s c.args.bin) (g.R.Rng.stream c.args.rng.now) = ap (λ (b : List ℕ). record { target = Document; body = b }) c.in-Ok.ensures.body in
-    let degree : c.of-degree.result ≡ s.degree = grind arith in
-    let count : c.chunks.result ≡ s.chunks = grind arith in
-    let spelled = subst (λ (b : List ℕ). AreSpelled c.of-degree.result (c.chunks.result) b) c.as_slice.ensures c.in-Ok-check_reply.ensures.spelled in
-    record {
-      comes = subst (λ (r : Request). Comes was now r (reply_with 200 c.in-Ok-ask.body)) same c.in-Ok-ask.ensures.came;
-      spelled = subst (λ (k : ℕ). AreSpelled k (s.chunks) c.in-Ok-ask.body) degree (subst (λ (k : ℕ). AreSpelled c.of-degree.result k c.in-Ok-ask.body) count spelled);
-    }
-
-pub returns-in-Err-check_reply-clause-refused : goal.returns-in-Err-check_reply-clause-refused
-unfolding queries_request
-returns-in-Err-check_reply-clause-refused g c =
-    let s = c.args.reader.now.shape in
-    let was = g.K.Link.exchanges c.args.link.now in
-    let now = g.K.Link.exchanges c.ask.new.link in
-    let asked : Request = record { target = Document; body = c.in-Ok.query } in
-    let same : asked ≡ queries_request Document c.args.reader.now.secret (bin_messages s c.args.bin) (g.R.Rng.stream c.args.rng.now) = ap (λ (b : List ℕ). record { target = Document; body = b }) c.in-Ok.ensures.body in
-    let degree : c.of-degree.result ≡ s.degree = grind arith in
-    let count : c.chunks.result ≡ s.chunks = grind arith in
-    let size : (c.chunks.result) * (28 * c.of-degree.result) ≡ reply_size s Document = (λ t. count t * (28 * degree t)) in
-    let bad = subst (λ (k : ℕ). IsRefusedBody k Document c.in-Ok-ask.body c.in-Err-check_reply.fault) size (subst (λ (b : List ℕ). IsRefusedBody ((c.chunks.result) * (28 * c.of-degree.result)) Document b c.in-Err-check_reply.fault) c.as_slice.ensures c.in-Err-check_reply.ensures.refused) in
-    subst (λ (r : Request). RoundFails (reply_size s Document) was now r c.in-Err-check_reply.fault) same (body-round (reply_size s Document) was now asked c.in-Ok-ask.body c.in-Err-check_reply.fault c.in-Ok-ask.ensures.came bad)
+returns-clause-refused g c = fails-asked _ _ _ Document c.in-Ok.query _ c.ask_ciphers.result c.in-Ok.ensures.body c.ask_ciphers.ensures.refused

@@ -1,45 +1,26 @@
-use Rattle.std.proofs.Common.{◌≡◌, ℕ, inr, ◌∙◌, sym, ap, subst, List, Ok}
+use Rattle.std.proofs.Common.{◌≡◌, ℕ, ◌∙◌, sym, ap, subst, List, Ok}
 use Rattle.co_link.specs.declared.messages.Target.TheVariants.{Public}
-use Rattle.co_math.specs.Coefficients.{AreBelow}
 use Rattle.co_noise.specs.Shapes.{Numbers}
 use Rattle.co_noise.proofs.Room.{test_of-same}
 use Rattle.co_wire.specs.Public.{ArePublic, public_of}
 use Rattle.co_rounds.specs.Answers.{reply_with}
 use Rattle.co_client.specs.Rounds.{Comes}
-use Rattle.co_client.proofs.Chained.{terms-sorted}
 use Rattle.co_client.proofs.publishing.consult.Goals as goal
 
-pub look_up-requires-clause-sorted : goal.look_up-requires-clause-sorted
-look_up-requires-clause-sorted g c = terms-sorted c.in-Ok-read_public.public.1 c.in-Ok-read_public.ensures.found.0.each
-
-pub returns-in-Ok-look_up-clause-found : goal.returns-in-Ok-look_up-clause-found
-returns-in-Ok-look_up-clause-found g c =
+pub returns-clause-found : goal.returns-clause-found
+returns-clause-found g c =
     let was = g.K.Link.exchanges c.args.link.now in
     let now = g.K.Link.exchanges c.ask.new.link in
     let body = c.in-Ok.body in
     let s = c.in-Ok-read_public.public.0 in
     let terms = c.in-Ok-read_public.public.1 in
-    let shape : c.in-Ok-look_up.published.tested ≡ s = c.in-Ok-look_up.ensures.tested ∙ test_of-same s c.in-Ok-test.tested (sym c.test.ensures ∙ c.in-Ok-test.is) in
+    let shape : c.in-Ok-test.tested ≡ s = test_of-same s c.in-Ok-test.tested (sym c.test.ensures ∙ c.in-Ok-test.is) in
     record {
-      terms = terms;
       public = record {
         body = body;
         comes = subst (λ (b : List ℕ). Comes was now (record { target = Public; body = b }) (reply_with 200 body)) c.new.ensures c.in-Ok.ensures.came;
         read = ap public_of (sym c.as_slice-2.ensures) ∙ c.in-Ok-read_public.ensures.exact ∙ ap (λ (x : Numbers). Ok (x, terms)) (sym shape);
         good = subst (λ (x : Numbers). ArePublic x terms) (sym shape) c.in-Ok-read_public.ensures.found.0;
       };
-      passes = c.in-Ok-look_up.ensures.passes;
-      keywords = c.in-Ok-look_up.ensures.keywords;
-      unknown = c.in-Ok-look_up.ensures.unknown;
+      passes = c.shape.ensures.passes;
     }
-
-pub returns-clause-refused : goal.returns-clause-refused
-returns-clause-refused g c =
-    let was = g.K.Link.exchanges c.args.link.now in
-    let now = g.K.Link.exchanges c.ask.new.link in
-    let body = c.in-Ok.body in
-    inr (record {
-      body = body;
-      bytes = subst (λ (b : List ℕ). AreBelow 256 b) c.as_slice.ensures c.are_bytes.ensures;
-      comes = subst (λ (b : List ℕ). Comes was now (record { target = Public; body = b }) (reply_with 200 body)) c.new.ensures c.in-Ok.ensures.came;
-    })

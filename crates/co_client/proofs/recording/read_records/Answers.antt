@@ -5,6 +5,7 @@ use Rattle.co_pack.specs.declared.records.Record.{Record}
 use Rattle.co_bucket.specs.Lists.{bucket_count}
 use Rattle.co_rounds.specs.Placing.{document_at}
 use Rattle.co_rounds.specs.Recording.{is_within_bins}
+use Rattle.co_client.specs.Gathered.{with_bins}
 use Rattle.co_client.specs.Records.{record_read}
 use Rattle.co_client.proofs.Readings.{more-read, all-read, fault-read, places-long, place-there}
 use Rattle.co_client.proofs.recording.read_records.Goals as goal
@@ -28,28 +29,31 @@ read_one-requires-clause-place c =
 pub returns-in-Err-clause-read : goal.returns-in-Err-clause-read
 returns-in-Err-clause-read c =
     let r = c.args.reader.now in
+    let s = with_bins r.shape c.args.bins in
     let hits = c.args.hits.now in
     let rank = c.loop-rank.rank in
-    fault-read r.shape r.secret c.args.body.now c.args.placed.now hits rank c.loop-rank.records c.in-Err.fault (omega arith) c.loop-rank.invariant.read
-    (λ cs all s want. ap (λ (k : ℕ). record_read r.shape r.secret cs k (document_at hits rank)) (sym c.bucket_of-bucket.ensures) ∙ c.in-Err.ensures.read cs all s want)
+    fault-read s r.secret c.args.body.now c.args.placed.now hits rank c.loop-rank.records c.in-Err.fault (omega arith) c.loop-rank.invariant.read
+    (λ cs all spelled want. ap (λ (k : ℕ). record_read s r.secret cs k (document_at hits rank)) (sym c.bucket_of-bucket.ensures) ∙ c.in-Err.ensures.read cs all spelled want)
 
 pub loop-rank-preserved : goal.loop-rank-preserved
 loop-rank-preserved c =
     let r = c.args.reader.now in
+    let s = with_bins r.shape c.args.bins in
     let hits = c.args.hits.now in
     let rank = c.loop-rank.rank in
     let front = c.loop-rank.records in
     let one = c.in-Ok-read_one.record in
     let added : c.push.new.self ≡ front ++ one ∷ [] = c.in-Ok-push.ensures.ok in
     record {
-      read = more-read r.shape r.secret c.args.body.now c.args.placed.now hits rank front c.push.new.self one (omega arith) c.loop-rank.invariant.read added
-          (λ cs all s. ap (λ (k : ℕ). record_read r.shape r.secret cs k (document_at hits rank)) (sym c.bucket_of-bucket.ensures) ∙ c.in-Ok-read_one.ensures.read cs all s);
-      within = subst (λ (rs : List Record). All (λ x. is_within_bins r.shape x.place ≡ true) rs) (sym added)
-          (All-push (λ (x : Record). is_within_bins r.shape x.place ≡ true) front one c.loop-rank.invariant.within c.in-Ok-read_one.ensures.within);
+      read = more-read s r.secret c.args.body.now c.args.placed.now hits rank front c.push.new.self one (omega arith) c.loop-rank.invariant.read added
+          (λ cs all spelled. ap (λ (k : ℕ). record_read s r.secret cs k (document_at hits rank)) (sym c.bucket_of-bucket.ensures) ∙ c.in-Ok-read_one.ensures.read cs all spelled);
+      within = subst (λ (rs : List Record). All (λ x. is_within_bins s x.place ≡ true) rs) (sym added)
+          (All-push (λ (x : Record). is_within_bins s x.place ≡ true) front one c.loop-rank.invariant.within c.in-Ok-read_one.ensures.within);
       long = omega (arith, ap length added, length-append front (one ∷ []), c.loop-rank.invariant.long);
     }
 
 pub returns-clause-read : goal.returns-clause-read
 returns-clause-read c =
     let r = c.args.reader.now in
-    all-read r.shape r.secret c.args.body.now c.args.placed.now c.args.hits.now c.loop-rank.rank c.loop-rank.records (omega arith) c.loop-rank.invariant.read
+    let s = with_bins r.shape c.args.bins in
+    all-read s r.secret c.args.body.now c.args.placed.now c.args.hits.now c.loop-rank.rank c.loop-rank.records (omega arith) c.loop-rank.invariant.read

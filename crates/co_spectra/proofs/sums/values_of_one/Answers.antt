@@ -1,5 +1,4 @@
-use Rattle.std.proofs.Common.{◌∙◌, sym, subst, ap, set, replicate}
-use Rattle.co_rns.specs.Spectra.{IsSpectrumOf}
+use Rattle.std.proofs.Common.{◌∙◌, ap, set, replicate}
 use Rattle.co_math.specs.Coefficients.{coefficients}
 use Rattle.co_math.specs.Polynomials.{unit}
 use Rattle.co_spectra.proofs.Agreeing.{spectrum_low}

@@ -1,9 +1,5 @@
 -- A list of residues has the values of what they are the residues of.
-use Rattle.std.proofs.Common.{◌∙◌, ℕ, ◌<◌, sym, subst, arith}
-use Rattle.co_math.specs.Parameters.{q}
 use Rattle.co_math.specs.Coefficients.{coefficients}
-use Rattle.co_math.proofs.Residues.{cong_from, cong-trans}
-use Rattle.co_math.proofs.Reduced.{residue_of}
 use Rattle.co_rns.specs.Residue_pairs.{centred_coefficients}
 use Rattle.co_spectra.proofs.Agreeing.{spectrum_low, residues_low}
 use Rattle.co_spectra.proofs.values.plain_spectrum.Goals as goal

@@ -9,4 +9,4 @@ loop-i-preserved c =
     let at = c.loop-i.at in
     subst (λ (m : ℕ). AreRead n c.args.body.now (i + 1) (at + 4 * m) c.push.new.self.items) (sym c.get.ensures.value)
     (one-read n c.args.body.now i at c.loop-i.ciphers.items c.push.new.self.items c.in_ok-cipher.cipher c.loop-i.invariant c.in-Ok.ensures.items
-    c.in_ok-cipher.ensures.cipher c.in_ok-cipher.ensures.degree c.in_ok-cipher.ensures.spelled c.in_ok-cipher.ensures.in_range)
+    c.in_ok-cipher.ensures.cipher c.in_ok-cipher.ensures.degree c.in_ok-cipher.ensures.read.0 c.in_ok-cipher.ensures.read.1)

@@ -1,15 +1,19 @@
-use Rattle.std.proofs.Common.{◌≡◌, ◌∙◌, sym, length, arith}
+use Rattle.std.proofs.Common.{◌≡◌, ◌∙◌, ◌+◌, ◌*◌, ℕ, sym, ap, length, arith}
+use Rattle.co_wire.proofs.Fronts.{range-at}
 use Rattle.co_wire.proofs.Spelled.{polynomial-spelled}
 use Rattle.co_wire.proofs.bodies.read_polynomial.Goals as goal
 
-pub returns-clause-spelled : goal.returns-clause-spelled
-returns-clause-spelled c =
+pub returns-clause-read : goal.returns-clause-read
+returns-clause-read c =
     let i = c.loop-k.invariant in
     let xs = c.from_parts.result in
     let first = c.from_parts.ensures.first_residues in
     let second = c.from_parts.ensures.second_residues in
     let n = c.args.degree in
     let long : length xs ≡ n = sym first.len ∙ i.first_degree in
-    polynomial-spelled n c.args.from c.args.body.now xs (λ k. omega (arith, c.type_inv.body k)) c.requires.room long
-    (λ k l. sym (first.each k (omega (arith, long))) ∙ i.first_put k (omega (arith, c.loop-k-test.false, c.get-k-end.ensures.value)))
-    (λ k l. sym (second.each k (omega (arith, long))) ∙ i.second_put k (omega (arith, c.loop-k-test.false, c.get-k-end.ensures.value)))
+    let all : c.loop-k.k ≡ n = omega (arith, c.loop-k-test.false, c.loop-k.auto.k-end, c.get-k-end.ensures.value) in (
+      polynomial-spelled n c.args.from c.args.body.now xs (λ k. omega (arith, c.type_inv.body k)) c.requires.room long
+          (λ k l. sym (first.each k (omega (arith, long))) ∙ i.first_put k (omega (arith, c.loop-k-test.false, c.get-k-end.ensures.value)))
+          (λ k l. sym (second.each k (omega (arith, long))) ∙ i.second_put k (omega (arith, c.loop-k-test.false, c.get-k-end.ensures.value))),
+      range-at c.args.body.now (c.args.from + 2 * c.loop-k.k) (c.args.from + 2 * n) (ap (λ (k : ℕ). c.args.from + 2 * k) all) i.in_range,
+    )

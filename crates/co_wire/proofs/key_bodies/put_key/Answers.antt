@@ -1,12 +1,6 @@
 use Rattle.std.proofs.Common.{◌<◌, ◌∙◌, sym, length, arith}
-use Rattle.std.proofs.lemmas.List.{append-nil}
-use Rattle.co_wire.specs.Bodies.{pairs_bytes}
 use Rattle.co_wire.proofs.Keyed.{pairs-more}
 use Rattle.co_wire.proofs.key_bodies.put_key.Goals as goal
-
-pub loop-index-init : goal.loop-index-init
-unfolding pairs_bytes
-loop-index-init c = sym (append-nil c.args.out.now.items)
 
 pub loop-index-preserved : goal.loop-index-preserved
 loop-index-preserved c =

@@ -24,4 +24,4 @@ loop-j-preserved c =
     let next : c.loop-j.at + 24 * c.get-n.result ≡ c.loop-j.at + 24 * n = omega (arith, c.get-n.ensures.value) in
     one-key n (expansion_element n) c.args.from j c.loop-j.at (c.loop-j.at + 24 * c.get-n.result) c.loop-j.keys.items c.push.new.self.items c.in_ok-key.key c.args.body.now
     c.loop-j.invariant next c.in-Ok.ensures.items (c.in_ok-key.ensures.element ∙ ap (λ (m : ℕ). m / 2 ^ j + 1) c.get-n.ensures.value)
-    c.in_ok-key.ensures.degree c.in_ok-key.ensures.key c.in_ok-key.ensures.spelled c.in_ok-key.ensures.in_range
+    c.in_ok-key.ensures.degree c.in_ok-key.ensures.key c.in_ok-key.ensures.read.0 c.in_ok-key.ensures.read.1

@@ -20,6 +20,6 @@ loop-b-preserved c =
     let next : c.loop-b.at + 24 * c.get-n.result ≡ c.loop-b.at + 24 * n = omega (arith, c.get-n.ensures.value) in (
       one-key n (rotation_element n) 0 b c.loop-b.at (c.loop-b.at + 24 * c.get-n.result) c.loop-b.keys.items c.push.new.self.items c.in_ok-key.key c.args.body.now
           c.loop-b.invariant.0 next c.in-Ok.ensures.items (c.in_ok-key.ensures.element ∙ c.loop-b.invariant.1)
-          c.in_ok-key.ensures.degree c.in_ok-key.ensures.key c.in_ok-key.ensures.spelled c.in_ok-key.ensures.in_range,
+          c.in_ok-key.ensures.degree c.in_ok-key.ensures.key c.in_ok-key.ensures.read.0 c.in_ok-key.ensures.read.1,
       rotation_element-next n b c.loop-b.element c.square-element.result (2 * c.get-n.result) c.loop-b.invariant.1 (ap (λ (m : ℕ). 2 * m) c.get-n.ensures.value) c.square-element.ensures,
     )

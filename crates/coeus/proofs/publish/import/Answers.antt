@@ -1,6 +1,8 @@
 use Rattle.std.proofs.Common.{refl, ap, ◌∙◌, Err}
+use Rattle.coeus.specs.Words.{SpokenImport}
 use Rattle.coeus.specs.Commands.{import_shown}
 use Rattle.coeus.specs.Imports.{import_text}
+use Rattle.coeus.proofs.Ending.{put_ends}
 use Rattle.coeus.proofs.Importing.{import_answer, same_files, others_kept, rose_since}
 use Rattle.coeus.proofs.publish.import.Goals as goal
 
@@ -29,25 +31,10 @@ returns-in-Err-OutOfMemory-write g c = λ devices. record {
   uses = refl;
 }
 
-pub returns-in-Ok-put : goal.returns-in-Ok-put
-returns-in-Ok-put g c = λ devices. record {
-  text = c.as_bytes.result.now;
-  prints = import_answer (import_shown c.args.command.now) _ _ _ c.in_ok-corpus.corpus c.in-Ok.library c.as_slice-2.result.now c.as_bytes.result.now
-      c.in_ok-corpus.ensures.ok c.as_slice.ensures.corpus c.in-Ok.ensures.published c.read_documents.ensures.files c.in-Ok-write-2.ensures.bytes.put
-      (c.as_slice-2.ensures ∙ c.in-Ok-write.ensures) (c.as_bytes.ensures.value ∙ c.in-Ok-numbers_line.ensures ∙ ap import_text c.shape.ensures.value);
-  passes = tt;
-  took = c.in-Ok-put.ensures.bytes;
-  keeps = λ name differs. others_kept _ _ _ name c.read_documents.ensures.files (c.write-2.ensures.bytes.others name differs);
-  uses = refl;
-}
-
 pub returns : goal.returns
-returns g c = λ devices. record {
-  text = c.as_bytes.result.now;
-  begins = import_answer (import_shown c.args.command.now) _ _ _ c.in_ok-corpus.corpus c.in-Ok.library c.as_slice-2.result.now c.as_bytes.result.now
-      c.in_ok-corpus.ensures.ok c.as_slice.ensures.corpus c.in-Ok.ensures.published c.read_documents.ensures.files c.in-Ok-write-2.ensures.bytes.put
-      (c.as_slice-2.ensures ∙ c.in-Ok-write.ensures) (c.as_bytes.ensures.value ∙ c.in-Ok-numbers_line.ensures ∙ ap import_text c.shape.ensures.value);
-  took = record { front = c.in-Err-put.ensures.bytes; rose = c.in-Err-put.ensures.cause.failed };
-  keeps = λ name differs. others_kept _ _ _ name c.read_documents.ensures.files (c.write-2.ensures.bytes.others name differs);
-  uses = refl;
-}
+returns g c = λ devices.
+    let printed = import_answer (import_shown c.args.command.now) _ _ _ c.in_ok-corpus.corpus c.in-Ok.library c.as_slice-2.result.now c.as_bytes.result.now
+    c.in_ok-corpus.ensures.ok c.as_slice.ensures.corpus c.in-Ok.ensures.published c.read_documents.ensures.files c.in-Ok-write-2.ensures.bytes.put
+    (c.as_slice-2.ensures ∙ c.in-Ok-write.ensures) (c.as_bytes.ensures.value ∙ c.in-Ok-numbers_line.ensures ∙ ap import_text c.shape.ensures.value) in
+    put_ends (SpokenImport (import_shown c.args.command.now)) _ _ c.as_bytes.result.now c.put_answer.result c.put_answer.ensures printed printed tt
+    (λ name differs. others_kept _ _ _ name c.read_documents.ensures.files (c.write-2.ensures.bytes.others name differs)) refl

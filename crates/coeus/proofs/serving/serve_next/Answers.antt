@@ -1,35 +1,13 @@
-use Rattle.std.proofs.Common.{List, ℕ, subst, ◌∙◌}
-use Rattle.co_link.specs.Held.{TookWhole, TookPrefix}
+use Rattle.std.proofs.Common.{◌∙◌}
 use Rattle.coeus.specs.Outside.{port_state}
 use Rattle.coeus.proofs.Talks.{one_served}
 use Rattle.coeus.proofs.serving.serve_next.Goals as goal
 
-pub returns-in-Ok-put : goal.returns-in-Ok-put
-returns-in-Ok-put g c =
+pub returns : goal.returns
+returns g c =
     let mid = port_state (g.P.Port.tells c.accept.new.self) 0 (g.P.Source.left c.accept.new.self) (g.P.Sink.put_so_far c.accept.new.self)
     (g.P.Source.faults c.accept.new.self) (g.P.Sink.faults c.accept.new.self) in
-    let s = c.serve_connection-served in (
-      s.result,
-      one_served c.args.loaded.now s.result _ mid _ c.requires.listens c.in-Ok.ensures.tells c.in-Ok.ensures.takes c.in-Ok.ensures.puts
-          (g.met.P.Port.both_leave_port _ _ s.ensures.beside) s.ensures.serves s.ensures.takes_later s.ensures.puts_later s.ensures.read_fault s.ensures.write_fault
-          (g.met.P.Port.both_leave_port_faults _ _ s.ensures.beside ∙ c.in-Ok.ensures.cause.same),
-      subst (λ (t : List ℕ). TookWhole (g.O.Sink.put_so_far c.args.out.now) (g.O.Sink.put_so_far c.put.new.self) t) (c.as_slice.ensures ∙ c.connection_line-line.ensures)
-          c.in-Ok-put.ensures.bytes,
-      c.in-Ok-put.ensures.cause.same,
-    )
-
-pub returns-in-Err-put : goal.returns-in-Err-put
-returns-in-Err-put g c =
-    let mid = port_state (g.P.Port.tells c.accept.new.self) 0 (g.P.Source.left c.accept.new.self) (g.P.Sink.put_so_far c.accept.new.self)
-    (g.P.Source.faults c.accept.new.self) (g.P.Sink.faults c.accept.new.self) in
-    let s = c.serve_connection-served in (
-      s.result,
-      one_served c.args.loaded.now s.result _ mid _ c.requires.listens c.in-Ok.ensures.tells c.in-Ok.ensures.takes c.in-Ok.ensures.puts
-          (g.met.P.Port.both_leave_port _ _ s.ensures.beside) s.ensures.serves s.ensures.takes_later s.ensures.puts_later s.ensures.read_fault s.ensures.write_fault
-          (g.met.P.Port.both_leave_port_faults _ _ s.ensures.beside ∙ c.in-Ok.ensures.cause.same),
-      record {
-        front = subst (λ (t : List ℕ). TookPrefix (g.O.Sink.put_so_far c.args.out.now) (g.O.Sink.put_so_far c.put.new.self) t)
-            (c.as_slice.ensures ∙ c.connection_line-line.ensures) c.in-Err-put.ensures.bytes;
-        rose = c.in-Err-put.ensures.cause.failed;
-      },
-    )
+    let s = c.serve_connection in
+    one_served c.args.loaded.now s.result _ mid _ c.requires.listens c.in-Ok.ensures.tells c.in-Ok.ensures.takes c.in-Ok.ensures.puts
+    (g.met.P.Port.both_leave_port _ _ s.ensures.beside) s.ensures.serves s.ensures.takes_later s.ensures.puts_later s.ensures.read_fault s.ensures.write_fault
+    (g.met.P.Port.both_leave_port_faults _ _ s.ensures.beside ∙ c.in-Ok.ensures.cause.same)

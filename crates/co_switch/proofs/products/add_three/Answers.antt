@@ -1,0 +1,16 @@
+use Rattle.std.proofs.Common.{◌+◌, [], ◌∷◌, List, arith, subst}
+use Rattle.std.proofs.lemmas.List.{get_or_read}
+use Rattle.co_rns.specs.Spectra.{PairValues, IsPairSumWithAll}
+use Rattle.co_switch.proofs.products.add_three.Goals as goal
+
+pub returns : goal.returns
+returns c = λ d.
+    let keys = c.args.keys.now in
+    let at = c.args.at in
+    let count = c.requires.keys.count in
+    let one = get_or_read keys at c.index-keys-at.result (omega (arith, c.requires.place, count)) c.index-keys-at.is d in
+    let two = get_or_read keys (at + 1) c.index-keys-at-2.result (omega (arith, c.requires.place, count)) c.index-keys-at-2.is d in
+    let three = get_or_read keys (at + 2) c.index-keys-at-3.result (omega (arith, c.requires.place, count)) c.index-keys-at-3.is d in
+    subst (λ (ps : List (PairValues × PairValues)). IsPairSumWithAll c.args.sum.now ps c.add_three.new.self)
+    (λ i. (c.args.low.now, one i) ∷ (c.args.middle.now, two i) ∷ (c.args.high.now, three i) ∷ [])
+    c.add_three.ensures
