@@ -1,5 +1,5 @@
 -- Sums of products in the order of the leaves, and in the order of k.
-use Rattle.std.proofs.Common.{◌≡◌, ℕ, ◌+◌, ◌*◌, ◌%◌, ◌<◌, ◌≤◌, ◌^◌, List, [], ◌∷◌, map, length, get_or, replicate, arith, refl, sym, ap, subst, ◌∙◌, ⊎_elim, ℤ, pos, negsuc, ◌+ℤ◌, ◌*ℤ◌}
+use Rattle.std.proofs.Common.{◌≡◌, ℕ, ◌+◌, ◌*◌, ◌%◌, ◌<◌, ◌≤◌, ◌^◌, List, [], ◌∷◌, ◌++◌, map, length, take, drop, get_or, replicate, arith, refl, sym, ap, subst, ◌∙◌, ⊎_elim, ℤ, pos, negsuc, ◌+ℤ◌, ◌*ℤ◌}
 use Rattle.std.specs.List.{range_with_len}
 use Rattle.std.proofs.lemmas.List.FromFn.{length-map-range_with_len, get_or-map-range_with_len}
 use Rattle.std.proofs.lemmas.List.{length-replicate, get_or-replicate, get_or_past}
@@ -20,14 +20,8 @@ use Rattle.co_ring.specs.declared.moduli.Modulus.{Modulus}
 use Rattle.co_ring.specs.Moduli.{value_of}
 use Rattle.co_ring.specs.Spectra.{in_order, AreLeaves, AreValues}
 use Rattle.co_ring.specs.Product_sums.{AreSumLeaves, AreSumsOf, AreSumsWith, AreSumsWithAll, AreReduced, AreZeros, most_products}
-use Rattle.co_ring.proofs.Keeping.{value-positive}
+use Rattle.co_ring.proofs.Keeping.{value-positive, written_back}
 use Rattle.co_ring.proofs.Orderings.{in_order-length, in_order-get, view_length, value-zero, odd_minus, values_add}
-
-pub gathered_in_order : (l n : ℕ) (old a b new : List ℕ) → n ≡ 2 ^ l → Gathered old a b n new → (k : ℕ) → k < 2 ^ l
-    → get_or (in_order l new) k 0 ≡ get_or (in_order l old) k 0 + get_or (in_order l a) k 0 * get_or (in_order l b) k 0
-gathered_in_order l n old a b new size g k u =
-    in_order-get l k new u ∙ g.done (place l k) (omega (arith, place-lt l k, size))
-    ∙ (λ i. sym (in_order-get l k old u) i + sym (in_order-get l k a u) i * sym (in_order-get l k b u) i)
 
 pub reduced_in_order : (l m v : ℕ) (sums ys : List ℕ) → m ≡ v → length sums ≡ 2 ^ l → HaveResidues m sums ys → AreReduced v (in_order l sums) (in_order l ys)
 reduced_in_order l m v sums ys e len h = record {
@@ -106,23 +100,34 @@ gathered_all_in_order l xs old ys sums pairs views own size same views_are g =
           ∙ ap (λ (zs : List ℕ). get_or zs k 0 + products_at views k) own;
     }
 
+-- the same of what was written through a slice of the vector
+pub written_in_order : (l n : ℕ) (xs old ys sums : List ℕ) (pairs views : List (List ℕ × List ℕ)) → in_order l xs ≡ sums → length xs ≡ 2 ^ l → old ≡ xs → length old ≡ n → all_ordered l pairs ≡ views
+    → GatheredAll old pairs (length old) ys → AreSumsWithAll sums views (in_order l (take n (ys ++ drop (length ys) xs)))
+written_in_order l n xs old ys sums pairs views own size same len views_are g =
+    subst (λ (zs : List ℕ). AreSumsWithAll sums views (in_order l zs)) (sym (written_back n xs ys (g.len ∙ len)))
+    (gathered_all_in_order l xs old ys sums pairs views own size same views_are g)
+
 -- the leaves of a spectrum are as many as those of a sum, and below the modulus
-pub leaves_fit : (l : ℕ) (xs old sums values leaves : List ℕ) → in_order l xs ≡ sums → length xs ≡ 2 ^ l → old ≡ xs → length values ≡ length sums → length leaves ≡ length values → length leaves ≡ length old
-leaves_fit l xs old sums values leaves own size same one e = e ∙ one ∙ view_length l xs sums own ∙ sym size ∙ sym (ap length same)
+pub leaves_fit : (l : ℕ) (xs old sums : List ℕ) → in_order l xs ≡ sums → length xs ≡ 2 ^ l → old ≡ xs → (values leaves : List ℕ) → length values ≡ length sums → length leaves ≡ length values → length leaves ≡ length old
+leaves_fit l xs old sums own size same values leaves one e = e ∙ one ∙ view_length l xs sums own ∙ sym size ∙ sym (ap length same)
 
-pub leaves_below : (m : ℕ) (own view its : Modulus) (leaves : List ℕ) → m ≡ value_of own → own ≡ view → its ≡ view → AreWithin (value_of its) leaves → AreWithin m leaves
-leaves_below m own view its leaves e o i h = subst (λ (k : ℕ). AreWithin k leaves) (ap value_of (i ∙ sym o) ∙ sym e) h
+pub leaves_below : (m : ℕ) (own view : Modulus) → m ≡ value_of own → own ≡ view → (its : Modulus) (leaves : List ℕ) → its ≡ view → AreWithin (value_of its) leaves → AreWithin m leaves
+leaves_below m own view e o its leaves i h = subst (λ (k : ℕ). AreWithin k leaves) (ap value_of (i ∙ sym o) ∙ sym e) h
 
--- the leaves of a sum with more products
-pub more_leaves : (modulus : Modulus) (l count more m : ℕ) (xs old ys : List ℕ) → AreSumLeaves modulus l count xs → m ≡ value_of modulus → old ≡ xs → length ys ≡ length old → count + more ≤ most_products
-    → AreWithin ((count + more) * (m * m)) ys → AreSumLeaves modulus l (count + more) ys
-more_leaves modulus l count more m xs old ys h e same len few w = record {
-  least = h.least;
-  most = h.most;
-  len = len ∙ ap length same ∙ h.len;
-  few = few;
-  within = subst (λ (k : ℕ). AreWithin ((count + more) * (k * k)) ys) e w;
-}
+-- how large the leaves of a sum are, before and after some products more
+module _ (modulus : Modulus) (l count m : ℕ) (xs old : List ℕ) (h : AreSumLeaves modulus l count xs) (e : m ≡ value_of modulus) (same : old ≡ xs) where
+  pub leaves_within : AreWithin (count * (m * m)) old
+  leaves_within = subst (AreWithin (count * (m * m))) (sym same) (subst (λ (k : ℕ). AreWithin (count * (k * k)) xs) (sym e) h.within)
+
+  pub written_leaves : (more n : ℕ) (ys : List ℕ) → length ys ≡ length old → length old ≡ n → count + more ≤ most_products → AreWithin ((count + more) * (m * m)) ys
+      → AreSumLeaves modulus l (count + more) (take n (ys ++ drop (length ys) xs))
+  written_leaves more n ys len size few w = subst (AreSumLeaves modulus l (count + more)) (sym (written_back n xs ys (len ∙ size))) (record {
+    least = h.least;
+    most = h.most;
+    len = len ∙ ap length same ∙ h.len;
+    few = few;
+    within = subst (λ (k : ℕ). AreWithin ((count + more) * (k * k)) ys) e w;
+  })
 
 -- one product more, as a list
 pub with_product : List ℕ → List ℕ → List ℕ → List ℕ
@@ -148,3 +153,7 @@ first_of_all old a b new pairs h = record {
 
 pub last_of_all : (old a b new : List ℕ) → AreSumsWithAll old ((a, b) ∷ []) new → AreSumsWith old a b new
 last_of_all old a b new h = record { len = h.len; each = λ k u. omega (arith, h.each k u) }
+
+-- one product is several of one pair
+pub as_all : (old a b sums : List ℕ) (n : ℕ) → Gathered old a b n sums → GatheredAll old ((a, b) ∷ []) n sums
+as_all old a b sums n g = record { len = g.len; done = λ k u. omega (arith, g.done k u); rest = g.rest }
