@@ -19,7 +19,7 @@ use Rattle.co_transform.proofs.Reversals.{place-lt}
 use Rattle.co_ring.specs.declared.moduli.Modulus.{Modulus}
 use Rattle.co_ring.specs.Moduli.{value_of}
 use Rattle.co_ring.specs.Spectra.{in_order, AreLeaves, AreValues}
-use Rattle.co_ring.specs.Product_sums.{AreSumLeaves, AreSumsOf, AreSumsWith, AreSumsWithAll, AreReduced, AreZeros, most_products}
+use Rattle.co_ring.specs.Product_sums.{Sums, AreSumLeaves, AreSumsOf, AreSumsWith, AreSumsWithAll, AreReduced, AreZeros, most_products}
 use Rattle.co_ring.proofs.Keeping.{value-positive, written_back}
 use Rattle.co_ring.proofs.Orderings.{in_order-length, in_order-get, view_length, value-zero, odd_minus, values_add}
 
@@ -100,34 +100,50 @@ gathered_all_in_order l xs old ys sums pairs views own size same views_are g =
           ∙ ap (λ (zs : List ℕ). get_or zs k 0 + products_at views k) own;
     }
 
--- the same of what was written through a slice of the vector
-pub written_in_order : (l n : ℕ) (xs old ys sums : List ℕ) (pairs views : List (List ℕ × List ℕ)) → in_order l xs ≡ sums → length xs ≡ 2 ^ l → old ≡ xs → length old ≡ n → all_ordered l pairs ≡ views
-    → GatheredAll old pairs (length old) ys → AreSumsWithAll sums views (in_order l (take n (ys ++ drop (length ys) xs)))
-written_in_order l n xs old ys sums pairs views own size same len views_are g =
-    subst (λ (zs : List ℕ). AreSumsWithAll sums views (in_order l zs)) (sym (written_back n xs ys (g.len ∙ len)))
-    (gathered_all_in_order l xs old ys sums pairs views own size same views_are g)
+-- a sum with its leaves as a slice, and the number of its modulus
+pub record IsHeld (s : Sums) (modulus : Modulus) (l count m n : ℕ) (xs old : List ℕ) : Type 0 where
+  pub kept : AreSumLeaves modulus l count xs
+  pub view : s ≡ record { modulus = modulus; count = count; values = in_order l xs }
+  pub value : m ≡ value_of modulus
+  pub same : old ≡ xs
+  pub len : length old ≡ n
 
--- the leaves of a spectrum are as many as those of a sum, and below the modulus
-pub leaves_fit : (l : ℕ) (xs old sums : List ℕ) → in_order l xs ≡ sums → length xs ≡ 2 ^ l → old ≡ xs → (values leaves : List ℕ) → length values ≡ length sums → length leaves ≡ length values → length leaves ≡ length old
-leaves_fit l xs old sums own size same values leaves one e = e ∙ one ∙ view_length l xs sums own ∙ sym size ∙ sym (ap length same)
+pub held : {s : Sums} {modulus : Modulus} {l count m n : ℕ} {xs old : List ℕ} → AreSumLeaves modulus l count xs → record { modulus = modulus; count = count; values = in_order l xs } ≡ s → m ≡ value_of modulus → old ≡ xs → length old ≡ n
+    → IsHeld s modulus l count m n xs old
+held kept view value same len = record { kept = kept; view = sym view; value = value; same = same; len = len }
 
-pub leaves_below : (m : ℕ) (own view : Modulus) → m ≡ value_of own → own ≡ view → (its : Modulus) (leaves : List ℕ) → its ≡ view → AreWithin (value_of its) leaves → AreWithin m leaves
-leaves_below m own view e o its leaves i h = subst (λ (k : ℕ). AreWithin k leaves) (ap value_of (i ∙ sym o) ∙ sym e) h
+module _ {s : Sums} {modulus : Modulus} {l count m n : ℕ} {xs old : List ℕ} (h : IsHeld s modulus l count m n xs old) where
+  own : in_order l xs ≡ s.values
+  own = sym (ap (λ (z : Sums). z.values) h.view)
 
--- how large the leaves of a sum are, before and after some products more
-module _ (modulus : Modulus) (l count m : ℕ) (xs old : List ℕ) (h : AreSumLeaves modulus l count xs) (e : m ≡ value_of modulus) (same : old ≡ xs) where
+  pub held_size : length s.values ≡ 2 ^ l
+  held_size = view_length l xs s.values own
+
+  -- the leaves of a spectrum are as many as those of the sum, and below the modulus
+  pub leaves_fit : (values leaves : List ℕ) → length values ≡ length s.values → length leaves ≡ length values → length leaves ≡ length old
+  leaves_fit values leaves one e = e ∙ one ∙ held_size ∙ sym h.kept.len ∙ sym (ap length h.same)
+
+  pub leaves_below : (its : Modulus) (leaves : List ℕ) → its ≡ s.modulus → AreWithin (value_of its) leaves → AreWithin m leaves
+  leaves_below its leaves e w = subst (λ (k : ℕ). AreWithin k leaves) (ap value_of (e ∙ ap (λ (z : Sums). z.modulus) h.view) ∙ sym h.value) w
+
+  -- how large the leaves of the sum are, before and after some products more
   pub leaves_within : AreWithin (count * (m * m)) old
-  leaves_within = subst (AreWithin (count * (m * m))) (sym same) (subst (λ (k : ℕ). AreWithin (count * (k * k)) xs) (sym e) h.within)
+  leaves_within = subst (AreWithin (count * (m * m))) (sym h.same) (subst (λ (k : ℕ). AreWithin (count * (k * k)) xs) (sym h.value) h.kept.within)
 
-  pub written_leaves : (more n : ℕ) (ys : List ℕ) → length ys ≡ length old → length old ≡ n → count + more ≤ most_products → AreWithin ((count + more) * (m * m)) ys
-      → AreSumLeaves modulus l (count + more) (take n (ys ++ drop (length ys) xs))
-  written_leaves more n ys len size few w = subst (AreSumLeaves modulus l (count + more)) (sym (written_back n xs ys (len ∙ size))) (record {
-    least = h.least;
-    most = h.most;
-    len = len ∙ ap length same ∙ h.len;
-    few = few;
-    within = subst (λ (k : ℕ). AreWithin ((count + more) * (k * k)) ys) e w;
+  pub written_leaves : (more : ℕ) (ys : List ℕ) → length ys ≡ length old → s.count + more ≤ most_products → AreWithin ((count + more) * (m * m)) ys → AreSumLeaves modulus l (count + more) (take n (ys ++ drop (length ys) xs))
+  written_leaves more ys len few w = subst (AreSumLeaves modulus l (count + more)) (sym (written_back n xs ys (len ∙ h.len))) (record {
+    least = h.kept.least;
+    most = h.kept.most;
+    len = len ∙ ap length h.same ∙ h.kept.len;
+    few = omega (arith, few, ap (λ (z : Sums). z.count) h.view);
+    within = subst (λ (k : ℕ). AreWithin ((count + more) * (k * k)) ys) h.value w;
   })
+
+  -- the products that were written back, in the order of k
+  pub written_in_order : (ys : List ℕ) (pairs views : List (List ℕ × List ℕ)) → all_ordered l pairs ≡ views → GatheredAll old pairs (length old) ys → AreSumsWithAll s.values views (in_order l (take n (ys ++ drop (length ys) xs)))
+  written_in_order ys pairs views views_are g =
+      subst (λ (zs : List ℕ). AreSumsWithAll s.values views (in_order l zs)) (sym (written_back n xs ys (g.len ∙ h.len)))
+      (gathered_all_in_order l xs old ys s.values pairs views own h.kept.len h.same views_are g)
 
 -- one product more, as a list
 pub with_product : List ℕ → List ℕ → List ℕ → List ℕ
