@@ -5,9 +5,7 @@ ghost use Rattle.co_transform.specs.Trees.{AreWithin, HaveResidues};
 ghost use Rattle.co_transform.specs.Gathered.{Gathered, GatheredAll, IsReducer};
 
 use crate::products::mul_shoup;
-use crate::tables::quotient;
-
-const TWO_TO_64: u128 = 1 << 64;
+use crate::tables::{TWO_TO_64, quotient};
 
 /// What takes any number of 128 bits modulo q by products alone.
 #[derive(Clone, Copy)]
@@ -142,51 +140,5 @@ pub fn gather_three(
     for i in 0..sums.len() {
         let first = a[i] as u128 * b[i] as u128 + c[i] as u128 * d[i] as u128;
         sums[i] += first + e[i] as u128 * f[i] as u128;
-    }
-}
-
-/// The same of four products in one pass.
-#[inline]
-pub fn gather_four(
-    sums: &mut [u128],
-    a: &[u64],
-    b: &[u64],
-    c: &[u64],
-    d: &[u64],
-    e: &[u64],
-    f: &[u64],
-    g: &[u64],
-    h: &[u64],
-    count: u64,
-    q: u64,
-)
-    requires a_length { length a.now ≡ length sums.old }
-    requires b_length { length b.now ≡ length sums.old }
-    requires c_length { length c.now ≡ length sums.old }
-    requires d_length { length d.now ≡ length sums.old }
-    requires e_length { length e.now ≡ length sums.old }
-    requires f_length { length f.now ≡ length sums.old }
-    requires g_length { length g.now ≡ length sums.old }
-    requires h_length { length h.now ≡ length sums.old }
-    requires modulus { q < 2 ^ 51 }
-    requires a_below { AreWithin q a.now }
-    requires b_below { AreWithin q b.now }
-    requires c_below { AreWithin q c.now }
-    requires d_below { AreWithin q d.now }
-    requires e_below { AreWithin q e.now }
-    requires f_below { AreWithin q f.now }
-    requires g_below { AreWithin q g.now }
-    requires h_below { AreWithin q h.now }
-    requires within { AreWithin (count * (q * q)) sums.old }
-    requires room { count + 4 ≤ 2 ^ 25 }
-    ensures within_after { AreWithin ((count + 4) * (q * q)) sums.new }
-    ensures sums { GatheredAll sums.old
-        ((a.now, b.now) ∷ (c.now, d.now) ∷ (e.now, f.now) ∷ (g.now, h.now) ∷ [])
-        (length sums.old) sums.new }
-{
-    for i in 0..sums.len() {
-        let first = a[i] as u128 * b[i] as u128 + c[i] as u128 * d[i] as u128;
-        let second = e[i] as u128 * f[i] as u128 + g[i] as u128 * h[i] as u128;
-        sums[i] += first + second;
     }
 }
