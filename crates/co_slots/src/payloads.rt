@@ -46,7 +46,9 @@ pub fn decode_bytes(alloc: Global, poly: &Poly) -> Result<Bytes, ByteFault>
     ensures whole { OnOk result (AreBelow 65536 poly.now.coeffs) }
     ensures fault { IfErr result (IsCause poly.now.coeffs) }
 {
-    let mut bytes = Bytes::new(alloc);
+    let Ok(mut bytes) = Bytes::with_capacity(alloc, 2 * poly.degree()) else {
+        return Err(ByteFault::OutOfMemory);
+    };
     for k in 0..poly.degree() {
         let coefficient = poly.coeff(k);
         if coefficient == 65536 {
