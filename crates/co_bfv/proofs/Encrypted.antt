@@ -1,8 +1,8 @@
 -- What encryption and decryption give.
-use Rattle.std.proofs.Common.{◌≡◌, ℕ, ◌+◌, ◌*◌, ◌/◌, ◌%◌, ◌<◌, ◌≤◌, sym, ap, subst, ◌∙◌, arith, ℤ, pos, ◌+ℤ◌, ◌-ℤ◌, ◌*ℤ◌, List, length, get_or, map}
+use Rattle.std.proofs.Common.{◌≡◌, ℕ, ◌+◌, ◌*◌, ◌/◌, ◌<◌, ◌≤◌, sym, ap, subst, ◌∙◌, arith, ℤ, pos, ◌+ℤ◌, ◌-ℤ◌, ◌*ℤ◌, List, length, get_or, map}
 use Rattle.std.specs.Int.RustNames.{unsigned_abs}
 use Rattle.std.proofs.Math.Nat.{mod-lt}
-use Rattle.std.proofs.lemmas.List.{get_or-map, length-map, ext_get_or}
+use Rattle.std.proofs.lemmas.List.{get_or-map, length-map}
 use Rattle.rand_core.specs.Stream.{Stream}
 use Rattle.co_math.specs.Parameters.{q, plain_modulus, plain_half, error_bound, fresh_bound}
 use Rattle.co_math.specs.Residues.{residue}
@@ -16,8 +16,6 @@ use Rattle.co_math.proofs.Places.{coefficients-IsWrapped}
 use Rattle.co_math.proofs.Polynomials.{product-IsWrapped}
 use Rattle.co_math.proofs.Agreements.{Agree, residues_agree, residues_for, plus_agree, minus_agree}
 use Rattle.co_math.proofs.Noise.{rounding}
-use Rattle.co_ring.specs.declared.moduli.Modulus.TheVariants.{Plain}
-use Rattle.co_ring.specs.Polynomials.{Polynomial}
 use Rattle.co_bfv.specs.Secrets.{IsSecret}
 use Rattle.co_bfv.specs.Ciphertexts.{Ciphertext, IsCiphertext, ciphertext_degree, MeansWithin}
 use Rattle.co_bfv.specs.Encryptions.{delta, encrypted, opened, decrypted}

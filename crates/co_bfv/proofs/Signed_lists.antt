@@ -1,5 +1,5 @@
 -- Polynomials of small integers, by their residues.
-use Rattle.std.proofs.Common.{◌≡◌, ℕ, suc, ◌-◌, ◌<◌, sym, ap, subst, ◌∙◌, arith, ℤ, pos, negsuc, true, false, List, length, get_or, map, w8}
+use Rattle.std.proofs.Common.{◌≡◌, ℕ, suc, ◌-◌, ◌<◌, sym, ap, subst, ◌∙◌, arith, ℤ, pos, negsuc, true, false, List, length, map, w8}
 use Rattle.std.proofs.lemmas.Bool.{leb-false}
 use Rattle.std.proofs.lemmas.List.{get_or-map, length-map}
 use lib.IntN.{nat_abs}

@@ -1,7 +1,6 @@
-use Rattle.std.proofs.Common.{◌≡◌, ℕ, List, arith, subst, sym, ap, ◌∙◌, length, map, take}
+use Rattle.std.proofs.Common.{◌≡◌, ℕ, List, arith, subst, sym, ap, ◌∙◌, map, take}
 use Rattle.std.proofs.lemmas.List.{length-map, take_all}
-use Rattle.co_math.specs.Parameters.{plain_modulus}
-use Rattle.co_math.specs.Coefficients.{AreBelow, IsDegree}
+use Rattle.co_math.specs.Coefficients.{IsDegree}
 use Rattle.co_ring.specs.declared.moduli.Modulus.TheVariants.{Plain}
 use Rattle.co_ring.specs.Polynomials.{IsPolynomial}
 use Rattle.co_bfv.specs.Encryptions.{opened}

@@ -1,4 +1,4 @@
-use Rattle.std.proofs.Common.{◌≡◌, ◌<◌, ℕ, ℤ, List, arith, ◌∙◌, sym, ap, subst, map, take}
+use Rattle.std.proofs.Common.{◌≡◌, ◌<◌, arith, ◌∙◌, sym, ap, subst, map, take}
 use Rattle.std.proofs.lemmas.List.{take_all}
 use Rattle.co_math.specs.Residues.{residue}
 use Rattle.co_math.specs.Coefficients.{AreResidues, IsDegree, signed_coefficients}
