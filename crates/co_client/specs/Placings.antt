@@ -1,5 +1,5 @@
 -- Where hits are placed, and which records are asked.
-use Rattle.std.specs.Prelude.{◌≡◌, ◌<◌, ℕ, List, [], length, map, Option, Some, None, Result, Ok, Err, slice_index_or}
+use Rattle.std.specs.Prelude.{◌≡◌, ◌<◌, ℕ, List, [], length, map, Option, Some, None, slice_index_or}
 use Rattle.std.specs.List.{range_with_len}
 use Rattle.co_noise.specs.Shapes.{Numbers}
 use Rattle.co_text.specs.declared.ranks.Ranked.{Ranked}
@@ -7,9 +7,6 @@ use Rattle.co_bucket.specs.Lists.{bucket_count}
 use Rattle.co_bucket.specs.Placement.{IsPlacement}
 use Rattle.co_rounds.specs.Placing.{choices_of, document_at, place_in_bucket, IsUnplaced}
 use Rattle.co_client.specs.Records.{bucket_of}
-use Rattle.co_text.specs.declared.found.Found.{Found}
-use Rattle.co_client.specs.declared.fault.SearchFault.{SearchFault}
-use Rattle.co_client.specs.declared.fault.SearchFault.TheVariants.{NoPlacement}
 
 -- so many buckets, none of which has a hit
 pub record AreFree (count : ℕ) (placed : List (Option ℕ)) : Type 0 where
@@ -26,11 +23,6 @@ ArePlaced s hits placed (Some witness) = IsUnplaced s hits witness.0 witness.1 �
 abbrev pub shown_of : Option (List ℕ × List ℕ) → List Ranked → List Ranked
 shown_of None hits = hits
 shown_of (Some witness) hits = []
-
--- the answer where the hits are placed, else that they can't be
-abbrev pub concluded : Option (List ℕ × List ℕ) → Found → Result Found SearchFault
-concluded None f = Ok f
-concluded (Some witness) f = Err (NoPlacement witness.0 witness.1)
 
 -- each hit has its bucket
 pub record HaveBuckets (s : Numbers) (hits : List Ranked) (placed : List (Option ℕ)) : Type 0 where

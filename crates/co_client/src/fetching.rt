@@ -94,10 +94,7 @@ fn read_text(
     let degree = Degree::of(shape.degree() as usize);
     let secret = reader.secret();
     let chunks = shape.chunks();
-    let bin = match open_part(alloc, secret, degree, body, chunks, Target::Document, 0) {
-        Ok(bin) => bin,
-        Err(fault) => return Err(fault),
-    };
+    let bin = open_part(alloc, secret, degree, body, chunks, Target::Document, 0)?;
     let start = place.offset as usize;
     let text = &bin.as_slice()[start..start + place.length as usize];
     match Bytes::copy_of(alloc, text) {
@@ -121,11 +118,9 @@ pub fn read_document(
     ensures { (cs : List Ciphertext) → SpellsCiphers reader.now.shape.degree reader.now.shape.chunks cs body.now
         → IsReadAs result (picked_read reader.now.secret cs (picked_record records.now pick)) }
 {
-    match records.get(pick as usize - 1) {
-        Some(record) => match read_text(alloc, reader, body, record.place) {
-            Ok(text) => Ok(Some((record.document, text))),
-            Err(fault) => Err(fault),
-        },
-        None => Ok(None),
-    }
+    let Some(record) = records.get(pick as usize - 1) else {
+        return Ok(None);
+    };
+    let text = read_text(alloc, reader, body, record.place)?;
+    Ok(Some((record.document, text)))
 }

@@ -33,10 +33,7 @@ pub(crate) fn consult<K: Link>(alloc: Global, link: &mut K) -> Result<Published,
     ensures ready { K.is_ready link.new ≡ true }
     ensures beside { K.beside link.new ≡ K.beside link.old }
 {
-    let body = match ask(link, Target::Public, Bytes::new(alloc), MOST_PUBLIC) {
-        Ok(body) => body,
-        Err(fault) => return Err(fault),
-    };
+    let body = ask(link, Target::Public, Bytes::new(alloc), MOST_PUBLIC)?;
     are_bytes(body.as_slice());
     let (shape, terms) = match read_public(alloc, body.as_slice()) {
         Ok(public) => public,

@@ -81,12 +81,7 @@ pub(crate) fn ask_ciphers<K: Link>(
 {
     let degree = Degree::of(reader.tested().shape().degree() as usize);
     let limit = reply_length(reader.tested(), target).max(LEAST_LIMIT);
-    let body = match ask(link, target, queries, limit) {
-        Ok(body) => body,
-        Err(fault) => return Err(fault),
-    };
-    match check_reply(alloc, degree, count, target, body.as_slice()) {
-        Ok(()) => Ok(body),
-        Err(fault) => Err(fault),
-    }
+    let body = ask(link, target, queries, limit)?;
+    check_reply(alloc, degree, count, target, body.as_slice())?;
+    Ok(body)
 }

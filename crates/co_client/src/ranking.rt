@@ -80,10 +80,7 @@ pub fn rank<K: Link, R: Rng>(
     let Ok(unknown) = unknown_terms(alloc, terms, query) else {
         return Err(SearchFault::OutOfMemory);
     };
-    let hits = match score_hits(alloc, link, rng, reader, keywords.as_slice()) {
-        Ok(hits) => hits,
-        Err(fault) => return Err(fault),
-    };
+    let hits = score_hits(alloc, link, rng, reader, keywords.as_slice())?;
     let shape = reader.tested().shape();
     let _ = shape.degree();
     let Ok(placing) = place_hits(alloc, shape, hits.as_slice()) else {

@@ -175,10 +175,7 @@ fn read_one(
     let degree = Degree::of(size as usize);
     let count = record_chunks(size);
     let secret = reader.secret();
-    let row = match open_part(alloc, secret, degree, body, count, Target::Meta, bucket) {
-        Ok(row) => row,
-        Err(fault) => return Err(fault),
-    };
+    let row = open_part(alloc, secret, degree, body, count, Target::Meta, bucket)?;
     let start = RECORD_BYTES * (place % records_a_row(size) as usize);
     check_record(
         alloc,
@@ -241,10 +238,7 @@ fn read_records(
         let bucket = bucket_of(placed, rank as u32);
         let place = places[bucket];
         let document = hits[rank].document;
-        let record = match read_one(alloc, reader, body, bins, bucket as u32, place, document) {
-            Ok(record) => record,
-            Err(fault) => return Err(fault),
-        };
+        let record = read_one(alloc, reader, body, bins, bucket as u32, place, document)?;
         let Ok(()) = records.push(record) else {
             return Err(SearchFault::OutOfMemory);
         };
@@ -283,9 +277,6 @@ pub fn records<K: Link, R: Rng>(
         return Err(SearchFault::OutOfMemory);
     };
     let asked = spots.as_slice();
-    let rows = match gather(alloc, link, rng, reader, asked) {
-        Ok(rows) => rows,
-        Err(fault) => return Err(fault),
-    };
+    let rows = gather(alloc, link, rng, reader, asked)?;
     read_records(alloc, reader, rows.as_slice(), bins, hits, placed, asked)
 }

@@ -227,10 +227,7 @@ pub fn score_hits<K: Link, R: Rng>(
     let shape = reader.tested().shape();
     let _ = shape.degree();
     let blocks = shape.document_blocks();
-    let body = match ask_ciphers(alloc, link, reader, Target::Score, queries, blocks) {
-        Ok(body) => body,
-        Err(fault) => return Err(fault),
-    };
+    let body = ask_ciphers(alloc, link, reader, Target::Score, queries, blocks)?;
     let Ok(scores) = read_scores(alloc, reader, body.as_slice()) else {
         return Err(SearchFault::OutOfMemory);
     };

@@ -82,19 +82,15 @@ pub fn start<K: Link, R: Rng>(
     let Ok(body) = write_keys(alloc, &keys) else {
         return Err(SearchFault::OutOfMemory);
     };
-    match ask(link, Target::Keys, body, LEAST_LIMIT) {
-        Err(fault) => Err(fault),
-        Ok(reply) => {
-            if !reply.is_empty() {
-                return Err(SearchFault::BadReply {
-                    target: Target::Keys,
-                    place: 0,
-                });
-            }
-            Ok(Reader {
-                tested: *tested,
-                secret,
-            })
-        }
+    let reply = ask(link, Target::Keys, body, LEAST_LIMIT)?;
+    if !reply.is_empty() {
+        return Err(SearchFault::BadReply {
+            target: Target::Keys,
+            place: 0,
+        });
     }
+    Ok(Reader {
+        tested: *tested,
+        secret,
+    })
 }
