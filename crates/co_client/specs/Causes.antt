@@ -4,7 +4,7 @@ use Rattle.rand_core.specs.Stream.{Stream}
 use Rattle.co_link.specs.Causes.{Rose}
 use Rattle.co_link.specs.Exchanges.{LinkCall, exchange_of}
 use Rattle.co_link.specs.declared.messages.Target.{Target}
-use Rattle.co_link.specs.declared.messages.Target.TheVariants.{Public, Keys, Score, Meta, Document}
+use Rattle.co_link.specs.declared.messages.Target.TheVariants.{Public, Score, Meta, Document}
 use Rattle.co_link.specs.declared.messages.Request.{Request}
 use Rattle.co_link.specs.declared.messages.Reply.{Reply}
 use Rattle.co_link.specs.declared.messages.Exchange.{Exchange}
@@ -18,6 +18,7 @@ use Rattle.co_bucket.specs.Bytes.{record_chunks}
 use Rattle.co_bucket.specs.Placement.{IsPlacement}
 use Rattle.co_pack.specs.declared.records.Record.{Record}
 use Rattle.co_text.specs.declared.found.Found.{Found}
+use Rattle.co_text.specs.declared.limits.TheConstants.{MAX_KEYWORDS}
 use Rattle.co_text.specs.declared.ranks.Ranked.{Ranked}
 use Rattle.co_text.specs.Ranking.{ranking}
 use Rattle.co_text.specs.Numbers.{numbers_of, unknown_in}
@@ -175,7 +176,7 @@ pub record HasBadText (r : Search) (es : List Exchange) (fault : SearchFault) : 
 
 -- the cause of each refusal; want of memory is free
 abbrev pub IsCause : Search → List Exchange → SearchFault → Type 0
-IsCause r es (TooManyKeywords found) = (16 < length (distinct r.query)) × (found ≡ min (length (distinct r.query)) 4294967295) × (es ≡ [])
+IsCause r es (TooManyKeywords found) = (MAX_KEYWORDS < length (distinct r.query)) × (found ≡ min (length (distinct r.query)) 4294967295) × (es ≡ [])
 IsCause r es (BadPublic place) = HasBadPublic es place
 IsCause r es (Test fault) = FailsTest es fault
 IsCause r es (NoPlacement documents buckets) = HasNoPlacement r es documents buckets × IsWholePlan es
@@ -185,10 +186,8 @@ IsCause r es (BadReply target place) = HasBadReply es target place
 IsCause r es (WrongRecord wanted found) = HasBadRecord r es (WrongRecord wanted found)
 IsCause r es (BadPlace document) = HasBadRecord r es (BadPlace document)
 IsCause r es (NotByte Document reply place) = HasBadText r es (NotByte Document reply place)
-IsCause r es (NotByte Public reply place) = ⊥
-IsCause r es (NotByte Keys reply place) = ⊥
-IsCause r es (NotByte Score reply place) = ⊥
 IsCause r es (NotByte Meta reply place) = HasBadRecord r es (NotByte Meta reply place)
+IsCause r es (NotByte target reply place) = ⊥
 IsCause r es (BadRecord document place) = HasBadRecord r es (BadRecord document place)
 IsCause r es OutOfMemory = Unit {0}
 

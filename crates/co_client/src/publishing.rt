@@ -20,7 +20,9 @@ const MOST_PUBLIC: u64 = 8_519_720;
 /// What a library publishes: its numbers, which passed the test, and its terms.
 #[derive(Drop)]
 pub struct Published {
+    /// The numbers.
     pub tested: Tested,
+    /// The terms, ascending.
     pub terms: Terms,
 }
 

@@ -2,6 +2,7 @@
 
 ghost use Rattle.std.specs.Prelude.{◌≡◌, ◌≤◌, ℕ, List, All, Option, Some, true, length, Ok, IfOk, IfErr};
 ghost use Rattle.co_text.specs.Terms.{terms, distinct};
+ghost use Rattle.co_text.specs.declared.limits.TheConstants.{MAX_KEYWORDS};
 ghost use Rattle.co_link.specs.declared.messages.Exchange.{Exchange};
 ghost use Rattle.co_link.specs.declared.messages.Target.TheVariants as targets;
 ghost use Rattle.co_bfv.specs.Ciphertexts.{Ciphertext};
@@ -42,7 +43,7 @@ use std::alloc::{AllocError, Global};
 /// The distinct terms of a query.
 fn keywords_of(alloc: Global, query: &str) -> Result<Terms, SearchFault>
     ensures found { IfOk result (λ found. found ≡ distinct (terms query.now)) }
-    ensures few { IfOk result (λ found. length found ≤ 16) }
+    ensures few { IfOk result (λ found. length found ≤ MAX_KEYWORDS) }
     ensures refused { IfErr result (IsManyTerms (length (distinct (terms query.now)))) }
 {
     match query_terms(alloc, query) {

@@ -45,6 +45,7 @@ impl Reader {
         &self.tested
     }
 
+    /// The secret whose keys the server has.
     pub fn secret(&self) -> &Secret
         ensures value { result.now ≡ self.now.secret }
         ensures degree { length self.now.secret ≡ self.now.shape.degree }
