@@ -17,6 +17,7 @@ use Rattle.co_text.specs.Ranking.{ranking}
 use Rattle.co_switch.specs.Keys.{Keys}
 use Rattle.co_switch.specs.Draws.{key_set_draw}
 use Rattle.co_wire.specs.Bodies.{keys_bytes, ciphers_bytes, SpellsCiphers}
+use Rattle.co_wire.specs.Lengths.{reply_limit}
 use Rattle.co_rounds.specs.Answers.{reply_with}
 use Rattle.co_rounds.specs.Asked.{encryptions_draw, row_message}
 use Rattle.co_rounds.specs.Scoring.{scores_read}
@@ -81,6 +82,10 @@ RoundFails size was now r fault = ⊥
 pub record LinkFails {T : Type 0} (before now : ℕ) (is : Option LinkCall) (call : LinkCall) (result : Result T SearchFault) : Type 0 where
   pub later : before ≤ now
   pub failed : result ≡ Err Link → Rose before now × (is ≡ Some call)
+
+-- the call of a round behind the first, for this
+abbrev pub round_call : Numbers → Target → LinkCall
+round_call s target = record { target = target; limit = reply_limit s target }
 
 -- ---- the round of the keys
 

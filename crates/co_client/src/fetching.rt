@@ -4,10 +4,10 @@ ghost use Rattle.std.specs.Prelude.{◌≡◌, ◌+◌, ◌*◌, ◌<◌, ◌≤
 ghost use Rattle.co_link.specs.declared.messages.Target.TheVariants as targets;
 ghost use Rattle.co_bfv.specs.Ciphertexts.{Ciphertext};
 ghost use Rattle.co_wire.specs.Bodies.{SpellsCiphers, ciphers_bytes};
-ghost use Rattle.co_wire.specs.Lengths.{reply_size, reply_limit};
+ghost use Rattle.co_wire.specs.Lengths.{reply_size};
 ghost use Rattle.co_rounds.specs.Asked.{encryptions_draw};
 ghost use Rattle.co_rounds.specs.Recording.{is_within_bins};
-ghost use Rattle.co_client.specs.Rounds.{RoundFails, LinkFails, Gives, queries_request, queries_rest, bin_messages};
+ghost use Rattle.co_client.specs.Rounds.{round_call, RoundFails, LinkFails, Gives, queries_request, queries_rest, bin_messages};
 ghost use Rattle.co_client.specs.Records.{text_read, picked_record, picked_read, bin_asked};
 ghost use Rattle.co_client.specs.Faults.{IsReadAs};
 
@@ -56,7 +56,7 @@ pub fn fetch<K: Link, R: Rng>(
     ensures rest { OnOk result (R.stream rng.new ≡ queries_rest reader.now.secret (bin_messages reader.now.shape bin) (R.stream rng.old)) }
     ensures refused { IfErr result (RoundFails (reply_size reader.now.shape targets.Document) (K.exchanges link.old) (K.exchanges link.new)
         (queries_request targets.Document reader.now.secret (bin_messages reader.now.shape bin) (R.stream rng.old))) }
-    ensures cause { LinkFails (K.faults link.old) (K.faults link.new) (K.last_failed link.new) (record { target = targets.Document; limit = reply_limit reader.now.shape targets.Document }) result }
+    ensures cause { LinkFails (K.faults link.old) (K.faults link.new) (K.last_failed link.new) (round_call reader.now.shape targets.Document) result }
     ensures ready { K.is_ready link.new ≡ true }
     ensures beside { K.beside link.new ≡ K.beside link.old }
 {

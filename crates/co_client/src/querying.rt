@@ -5,9 +5,9 @@ ghost use Rattle.co_link.specs.declared.messages.Target.TheVariants as targets;
 ghost use Rattle.co_ring.specs.Polynomials.{degree_of};
 ghost use Rattle.co_bfv.specs.Draws.{encryption_draw};
 ghost use Rattle.co_wire.specs.Bodies.{cipher_bytes};
-ghost use Rattle.co_wire.specs.Lengths.{cipher_size, reply_size, reply_limit};
+ghost use Rattle.co_wire.specs.Lengths.{cipher_size, reply_size};
 ghost use Rattle.co_rounds.specs.Asked.{row_message};
-ghost use Rattle.co_client.specs.Rounds.{RoundFails, LinkFails, Gives};
+ghost use Rattle.co_client.specs.Rounds.{round_call, RoundFails, LinkFails, Gives};
 
 use crate::asking::{LEAST_LIMIT, ask};
 use crate::fault::SearchFault;
@@ -75,7 +75,7 @@ pub(crate) fn ask_ciphers<K: Link>(
     requires count { count * cipher_size reader.now.shape.degree ≡ reply_size reader.now.shape target }
     ensures came { IfOk result (Gives reader.now.shape.degree count (K.exchanges link.old) (K.exchanges link.new) (record { target = target; body = queries })) }
     ensures refused { IfErr result (RoundFails (reply_size reader.now.shape target) (K.exchanges link.old) (K.exchanges link.new) (record { target = target; body = queries })) }
-    ensures cause { LinkFails (K.faults link.old) (K.faults link.new) (K.last_failed link.new) (record { target = target; limit = reply_limit reader.now.shape target }) result }
+    ensures cause { LinkFails (K.faults link.old) (K.faults link.new) (K.last_failed link.new) (round_call reader.now.shape target) result }
     ensures ready { K.is_ready link.new ≡ true }
     ensures beside { K.beside link.new ≡ K.beside link.old }
 {

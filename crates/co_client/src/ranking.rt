@@ -6,9 +6,9 @@ ghost use Rattle.std.specs.Ordering.{nat_cmp};
 ghost use Rattle.std.specs.Cmp.Lexicographic.{slice_cmp};
 ghost use Rattle.co_link.specs.declared.messages.Target.TheVariants as targets;
 ghost use Rattle.co_text.specs.Numbers.{numbers_of, unknown_in};
-ghost use Rattle.co_wire.specs.Lengths.{reply_size, reply_limit};
+ghost use Rattle.co_wire.specs.Lengths.{reply_size};
 ghost use Rattle.co_rounds.specs.Asked.{AreKeywordMessages};
-ghost use Rattle.co_client.specs.Rounds.{RoundFails, LinkFails, Ranks, queries_request, queries_rest};
+ghost use Rattle.co_client.specs.Rounds.{round_call, RoundFails, LinkFails, Ranks, queries_request, queries_rest};
 ghost use Rattle.co_client.specs.Placings.{ArePlaced, shown_of};
 
 use crate::fault::SearchFault;
@@ -70,7 +70,7 @@ pub fn rank<K: Link, R: Rng>(
         → R.stream rng.new ≡ queries_rest reader.now.secret messages (R.stream rng.old)) }
     ensures refused { IfErr result (λ fault. (messages : List (List ℕ)) → AreKeywordMessages reader.now.shape (numbers_of terms.now query.now) messages
         → RoundFails (reply_size reader.now.shape targets.Score) (K.exchanges link.old) (K.exchanges link.new) (queries_request targets.Score reader.now.secret messages (R.stream rng.old)) fault) }
-    ensures cause { LinkFails (K.faults link.old) (K.faults link.new) (K.last_failed link.new) (record { target = targets.Score; limit = reply_limit reader.now.shape targets.Score }) result }
+    ensures cause { LinkFails (K.faults link.old) (K.faults link.new) (K.last_failed link.new) (round_call reader.now.shape targets.Score) result }
     ensures ready { K.is_ready link.new ≡ true }
     ensures beside { K.beside link.new ≡ K.beside link.old }
 {

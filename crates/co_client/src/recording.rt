@@ -10,11 +10,11 @@ ghost use Rattle.co_bucket.specs.Bytes.{record_row};
 ghost use Rattle.co_bfv.specs.Ciphertexts.{Ciphertext};
 ghost use Rattle.co_pack.specs.Records.{record_of};
 ghost use Rattle.co_wire.specs.Bodies.{SpellsCiphers, ciphers_bytes};
-ghost use Rattle.co_wire.specs.Lengths.{reply_size, reply_limit};
+ghost use Rattle.co_wire.specs.Lengths.{reply_size};
 ghost use Rattle.co_rounds.specs.Asked.{encryptions_draw};
 ghost use Rattle.co_rounds.specs.Placing.{place_in_bucket};
 ghost use Rattle.co_rounds.specs.Recording as recordings;
-ghost use Rattle.co_client.specs.Rounds.{RoundFails, LinkFails, Gives, queries_request, queries_rest, record_messages};
+ghost use Rattle.co_client.specs.Rounds.{round_call, RoundFails, LinkFails, Gives, queries_request, queries_rest, record_messages};
 ghost use Rattle.co_client.specs.Placings.{places_asked, HaveBuckets, ArePlaced, shown_of};
 ghost use Rattle.co_client.specs.Gathered.{with_bins, ReadsReplies, RecordsFail, records_rest};
 ghost use Rattle.co_client.specs.Records as readings;
@@ -98,7 +98,7 @@ fn gather<K: Link, R: Rng>(
         (record_messages reader.now.shape (map (record_row reader.now.shape.degree) places.now)) (R.stream rng.old)) }
     ensures refused { IfErr result (RoundFails (reply_size reader.now.shape targets.Meta) (K.exchanges link.old) (K.exchanges link.new)
         (queries_request targets.Meta reader.now.secret (record_messages reader.now.shape (map (record_row reader.now.shape.degree) places.now)) (R.stream rng.old))) }
-    ensures cause { LinkFails (K.faults link.old) (K.faults link.new) (K.last_failed link.new) (record { target = targets.Meta; limit = reply_limit reader.now.shape targets.Meta }) result }
+    ensures cause { LinkFails (K.faults link.old) (K.faults link.new) (K.last_failed link.new) (round_call reader.now.shape targets.Meta) result }
     ensures ready { K.is_ready link.new ≡ true }
     ensures beside { K.beside link.new ≡ K.beside link.old }
 {
@@ -265,7 +265,7 @@ pub fn records<K: Link, R: Rng>(
     ensures within { IfOk result (λ records. All (λ r. recordings.is_within_bins (with_bins reader.now.shape bins) r.place ≡ true) records) }
     ensures rest { OnOk result (R.stream rng.new ≡ records_rest reader.now ranked.now (R.stream rng.old)) }
     ensures refused { IfErr result (RecordsFail reader.now ranked.now bins (K.exchanges link.old) (K.exchanges link.new) (R.stream rng.old)) }
-    ensures cause { LinkFails (K.faults link.old) (K.faults link.new) (K.last_failed link.new) (record { target = targets.Meta; limit = reply_limit reader.now.shape targets.Meta }) result }
+    ensures cause { LinkFails (K.faults link.old) (K.faults link.new) (K.last_failed link.new) (round_call reader.now.shape targets.Meta) result }
     ensures ready { K.is_ready link.new ≡ true }
     ensures beside { K.beside link.new ≡ K.beside link.old }
 {

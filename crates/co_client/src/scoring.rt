@@ -14,10 +14,10 @@ ghost use Rattle.co_ring.specs.Polynomials.{degree_of};
 ghost use Rattle.co_matvec.specs.Weights.{keyword_slot};
 ghost use Rattle.co_matvec.specs.Replies.{HasSlots};
 ghost use Rattle.co_wire.specs.Bodies.{SpellsCiphers, ciphers_bytes};
-ghost use Rattle.co_wire.specs.Lengths.{cipher_size, reply_size, reply_limit};
+ghost use Rattle.co_wire.specs.Lengths.{cipher_size, reply_size};
 ghost use Rattle.co_rounds.specs.Asked.{AreKeywordMessages, encryptions_draw};
 ghost use Rattle.co_rounds.specs.Scoring.{scores_read};
-ghost use Rattle.co_client.specs.Rounds.{RoundFails, LinkFails, Ranks, queries_request, queries_rest};
+ghost use Rattle.co_client.specs.Rounds.{round_call, RoundFails, LinkFails, Ranks, queries_request, queries_rest};
 
 use crate::fault::SearchFault;
 use crate::querying::{ask_ciphers, put_query};
@@ -216,7 +216,7 @@ pub fn score_hits<K: Link, R: Rng>(
         → R.stream rng.new ≡ queries_rest reader.now.secret messages (R.stream rng.old)) }
     ensures refused { IfErr result (λ fault. (messages : List (List ℕ)) → AreKeywordMessages reader.now.shape keywords.now messages
         → RoundFails (reply_size reader.now.shape targets.Score) (K.exchanges link.old) (K.exchanges link.new) (queries_request targets.Score reader.now.secret messages (R.stream rng.old)) fault) }
-    ensures cause { LinkFails (K.faults link.old) (K.faults link.new) (K.last_failed link.new) (record { target = targets.Score; limit = reply_limit reader.now.shape targets.Score }) result }
+    ensures cause { LinkFails (K.faults link.old) (K.faults link.new) (K.last_failed link.new) (round_call reader.now.shape targets.Score) result }
     ensures few { IfOk result (λ hits. length hits ≤ reader.now.shape.hits) }
     ensures ready { K.is_ready link.new ≡ true }
     ensures beside { K.beside link.new ≡ K.beside link.old }

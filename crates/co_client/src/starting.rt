@@ -4,8 +4,7 @@ ghost use Rattle.std.specs.Prelude.{◌≡◌, ◌≤◌, [], true, length, IfOk
 ghost use Rattle.co_link.specs.declared.messages.Target.TheVariants as targets;
 ghost use Rattle.co_bfv.specs.Draws.{secret_draw};
 ghost use Rattle.co_rounds.specs.Answers.{reply_with};
-ghost use Rattle.co_wire.specs.Lengths.{reply_limit};
-ghost use Rattle.co_client.specs.Rounds.{Comes, RoundFails, LinkFails, keys_asked, keys_request};
+ghost use Rattle.co_client.specs.Rounds.{round_call, Comes, RoundFails, LinkFails, keys_asked, keys_request};
 
 use crate::asking::{LEAST_LIMIT, ask};
 use crate::fault::SearchFault;
@@ -28,7 +27,7 @@ pub struct Reader {
 
 impl Model for Reader {
     ghost use Rattle.std.specs.Prelude.{◌≡◌, length};
-    ghost use Rattle.co_client.specs.Rounds.{ReaderState};
+    ghost use Rattle.co_client.specs.Rounds.{round_call, ReaderState};
 
     ghost Value = { ReaderState };
 
@@ -69,7 +68,7 @@ pub fn start<K: Link, R: Rng>(
     ensures came { OnOk result (Comes (K.exchanges link.old) (K.exchanges link.new) (keys_request tested.now (R.stream rng.old)) (reply_with 200 [])) }
     ensures refused { IfErr result (RoundFails 0 (K.exchanges link.old) (K.exchanges link.new) (keys_request tested.now (R.stream rng.old))) }
     ensures cause { LinkFails (K.faults link.old) (K.faults link.new) (K.last_failed link.new)
-        (record { target = targets.Keys; limit = reply_limit tested.now targets.Keys }) result }
+        (round_call tested.now targets.Keys) result }
     ensures ready { K.is_ready link.new ≡ true }
     ensures beside { K.beside link.new ≡ K.beside link.old }
 {
