@@ -10,10 +10,11 @@ use Rattle.co_wire.specs.Bodies.{SpellsCiphers, IsFirstOutOfRange}
 use Rattle.co_client.specs.declared.fault.SearchFault.{SearchFault}
 use Rattle.co_client.specs.declared.fault.SearchFault.TheVariants.{BadReply, OutOfMemory}
 
--- the place of what is wrong in a body that is to have so many bytes: the lesser of the two lengths where they
--- differ, else the first residue out of range
+-- the place of what is wrong in a body that is to have so many bytes: the lesser of the two lengths
+-- where they differ, else the first residue out of range
 abbrev pub IsBadReply : ℕ → List ℕ → ℕ → Type 0
-IsBadReply size body place = ((length body ≢ size) × (place ≡ min (length body) size)) ⊎ ((length body ≡ size) × IsFirstOutOfRange body place)
+IsBadReply size body place = ((length body ≢ size) × (place ≡ min (length body) size))
+    ⊎ ((length body ≡ size) × IsFirstOutOfRange body place)
 
 -- the body is refused as that of a target's reply; want of memory is free
 abbrev pub IsRefusedBody : ℕ → Target → List ℕ → SearchFault → Type 0
@@ -26,10 +27,13 @@ pub record AreSpelled (n count : ℕ) (body : List ℕ) : Type 0 where
   pub ciphers : List Ciphertext
   pub spelled : SpellsCiphers n count ciphers body
 
--- what is opened of a body: the payload of these coefficients of the ciphertexts that it spells, or their first fault
+-- what is opened of a body: the payload of these coefficients of the ciphertexts that it spells, or
+-- their first fault
 abbrev pub OpensTo : ℕ → List ℕ → (List Ciphertext → List ℕ) → Result (List ℕ) ByteFault → Type 0
-OpensTo n body coeffs (Ok bytes) = (cs : List Ciphertext) (count : ℕ) → SpellsCiphers n count cs body → IsPayload bytes (coeffs cs)
-OpensTo n body coeffs (Err fault) = (cs : List Ciphertext) (count : ℕ) → SpellsCiphers n count cs body → IsCause (coeffs cs) fault
+OpensTo n body coeffs (Ok bytes) =
+    (cs : List Ciphertext) (count : ℕ) → SpellsCiphers n count cs body → IsPayload bytes (coeffs cs)
+OpensTo n body coeffs (Err fault) =
+    (cs : List Ciphertext) (count : ℕ) → SpellsCiphers n count cs body → IsCause (coeffs cs) fault
 
 -- behind the bytes before came the payload of these coefficients
 pub record AddsPayload (before now : List ℕ) (coeffs : List ℕ) : Type 0 where

@@ -19,7 +19,8 @@ abbrev pub public_request : Request
 public_request = record { target = Public; body = [] }
 
 -- the exchange published these numbers and terms
-pub record IsPublic (was now : Option (List Exchange)) (s : Numbers) (terms : List (List ℕ)) : Type 0 where
+pub record IsPublic (was now : Option (List Exchange)) (s : Numbers) (terms : List (List ℕ))
+    : Type 0 where
   pub body : List ℕ
   pub comes : Comes was now public_request (reply_with 200 body)
   pub read : public_of body ≡ Ok (s, terms)

@@ -24,6 +24,7 @@ answer_of ranked records document =
     })
 
 -- the same where the document is read of its bin's replies, or the first fault there
-abbrev pub answer_read : List ℤ → List Ciphertext → Ranked → List Record → ℕ → Result Found SearchFault
+abbrev pub answer_read : List ℤ → List Ciphertext → Ranked → List Record → ℕ
+    → Result Found SearchFault
 answer_read secret replies ranked records pick =
     picked_read secret replies (picked_record records pick) >>= answer_of ranked records

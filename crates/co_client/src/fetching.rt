@@ -30,8 +30,13 @@ fn bin_query<R: Rng>(
     rng: &mut R,
 ) -> Result<Bytes, AllocError>
     requires { bin < reader.now.shape.bins }
-    ensures body { IfOk result (λ body. body ≡ ciphers_bytes (encryptions_draw reader.now.secret (bin_messages reader.now.shape bin) (R.stream rng.old)).0) }
-    ensures rest { OnOk result (R.stream rng.new ≡ queries_rest reader.now.secret (bin_messages reader.now.shape bin) (R.stream rng.old)) }
+    ensures body { IfOk result
+        (λ body. body
+        ≡ ciphers_bytes (encryptions_draw reader.now.secret (bin_messages reader.now.shape bin)
+        (R.stream rng.old)).0) }
+    ensures rest { OnOk result
+        (R.stream rng.new ≡ queries_rest reader.now.secret (bin_messages reader.now.shape bin)
+        (R.stream rng.old)) }
 {
     let bins = reader.tested().shape().bins();
     let room = request_length(reader.tested(), Target::Document);
@@ -51,18 +56,25 @@ pub fn fetch<K: Link, R: Rng>(
 ) -> Result<Bytes, SearchFault>
     requires ready { K.is_ready link.old ≡ true }
     requires bin { bin < reader.now.shape.bins }
-    ensures came { IfOk result (Gives reader.now.shape.degree reader.now.shape.chunks (K.exchanges link.old) (K.exchanges link.new)
-        (queries_request targets.Document reader.now.secret (bin_messages reader.now.shape bin) (R.stream rng.old))) }
-    ensures rest { OnOk result (R.stream rng.new ≡ queries_rest reader.now.secret (bin_messages reader.now.shape bin) (R.stream rng.old)) }
-    ensures refused { IfErr result (RoundFails (reply_size reader.now.shape targets.Document) (K.exchanges link.old) (K.exchanges link.new)
-        (queries_request targets.Document reader.now.secret (bin_messages reader.now.shape bin) (R.stream rng.old))) }
-    ensures cause { LinkFails (K.faults link.old) (K.faults link.new) (K.last_failed link.new) (round_call reader.now.shape targets.Document) result }
+    ensures came { IfOk result
+        (Gives reader.now.shape.degree reader.now.shape.chunks (K.exchanges link.old)
+        (K.exchanges link.new)
+        (queries_request targets.Document reader.now.secret (bin_messages reader.now.shape bin)
+        (R.stream rng.old))) }
+    ensures rest { OnOk result
+        (R.stream rng.new ≡ queries_rest reader.now.secret (bin_messages reader.now.shape bin)
+        (R.stream rng.old)) }
+    ensures refused { IfErr result
+        (RoundFails (reply_size reader.now.shape targets.Document) (K.exchanges link.old)
+        (K.exchanges link.new)
+        (queries_request targets.Document reader.now.secret (bin_messages reader.now.shape bin)
+        (R.stream rng.old))) }
+    ensures cause { LinkFails (K.faults link.old) (K.faults link.new) (K.last_failed link.new)
+        (round_call reader.now.shape targets.Document) result }
     ensures ready { K.is_ready link.new ≡ true }
     ensures beside { K.beside link.new ≡ K.beside link.old }
 {
-    let Ok(query) = bin_query(alloc, reader, bin, rng) else {
-        return Err(SearchFault::OutOfMemory);
-    };
+    let query = bin_query(alloc, reader, bin, rng)?;
     let chunks = reader.tested().shape().chunks();
     ask_ciphers(alloc, link, reader, Target::Document, query, chunks)
 }
@@ -87,7 +99,8 @@ fn read_text(
 ) -> Result<Bytes, SearchFault>
     requires whole { length body.now ≡ reply_size reader.now.shape targets.Document }
     requires within { is_within_bins reader.now.shape place ≡ true }
-    ensures { (cs : List Ciphertext) → SpellsCiphers reader.now.shape.degree reader.now.shape.chunks cs body.now
+    ensures { (cs : List Ciphertext) → SpellsCiphers reader.now.shape.degree
+        reader.now.shape.chunks cs body.now
         → IsReadAs result (text_read reader.now.secret cs place) }
 {
     let shape = reader.tested().shape();
@@ -103,8 +116,8 @@ fn read_text(
     }
 }
 
-/// The number and the text of the document of the picked record, from the reply that spells its bin.
-/// Where no record is picked nothing is opened.
+/// The number and the text of the document of the picked record, from the reply that spells its
+/// bin. Where no record is picked nothing is opened.
 pub fn read_document(
     alloc: Global,
     reader: &Reader,
@@ -115,7 +128,8 @@ pub fn read_document(
     requires pick { 1 ≤ pick }
     requires whole { length body.now ≡ reply_size reader.now.shape targets.Document }
     requires within { All (λ r. is_within_bins reader.now.shape r.place ≡ true) records.now }
-    ensures { (cs : List Ciphertext) → SpellsCiphers reader.now.shape.degree reader.now.shape.chunks cs body.now
+    ensures { (cs : List Ciphertext) → SpellsCiphers reader.now.shape.degree
+        reader.now.shape.chunks cs body.now
         → IsReadAs result (picked_read reader.now.secret cs (picked_record records.now pick)) }
 {
     let Some(record) = records.get(pick as usize - 1) else {

@@ -31,7 +31,8 @@ pub(crate) fn consult<K: Link>(alloc: Global, link: &mut K) -> Result<Published,
     requires { K.is_ready link.old ≡ true }
     ensures found { IfOk result (Consults (K.exchanges link.old) (K.exchanges link.new)) }
     ensures refused { IfErr result (PublicFails (K.exchanges link.old) (K.exchanges link.new)) }
-    ensures cause { LinkFails (K.faults link.old) (K.faults link.new) (K.last_failed link.new) (record { target = targets.Public; limit = most_public }) result }
+    ensures cause { LinkFails (K.faults link.old) (K.faults link.new) (K.last_failed link.new)
+        (record { target = targets.Public; limit = most_public }) result }
     ensures ready { K.is_ready link.new ≡ true }
     ensures beside { K.beside link.new ≡ K.beside link.old }
 {

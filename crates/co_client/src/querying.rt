@@ -32,8 +32,11 @@ pub(crate) fn put_query<R: Rng>(
 ) -> Result<(), AllocError>
     requires plain_modulus { message.now.modulus ≡ Modulus.Plain }
     requires one_degree { degree_of message.now ≡ length secret.now }
-    ensures spelled { OnOk result (body.new.items ≡ body.old.items ++ cipher_bytes (encryption_draw secret.now message.now.coeffs (R.stream rng.old)).0) }
-    ensures rest { OnOk result (R.stream rng.new ≡ (encryption_draw secret.now message.now.coeffs (R.stream rng.old)).1) }
+    ensures spelled { OnOk result
+        (body.new.items ≡ body.old.items ++ cipher_bytes
+        (encryption_draw secret.now message.now.coeffs (R.stream rng.old)).0) }
+    ensures rest { OnOk result
+        (R.stream rng.new ≡ (encryption_draw secret.now message.now.coeffs (R.stream rng.old)).1) }
 {
     let cipher = [encrypt(alloc, secret, message, rng)?];
     let bytes = write_ciphers(alloc, &cipher)?;
@@ -51,8 +54,14 @@ pub(crate) fn put_row<R: Rng>(
 ) -> Result<(), AllocError>
     requires in_range { row < rows }
     requires few { rows ≤ reader.now.shape.degree }
-    ensures spelled { OnOk result (body.new.items ≡ body.old.items ++ cipher_bytes (encryption_draw reader.now.secret (row_message reader.now.shape.degree rows row) (R.stream rng.old)).0) }
-    ensures rest { OnOk result (R.stream rng.new ≡ (encryption_draw reader.now.secret (row_message reader.now.shape.degree rows row) (R.stream rng.old)).1) }
+    ensures spelled { OnOk result
+        (body.new.items ≡ body.old.items ++ cipher_bytes
+        (encryption_draw reader.now.secret (row_message reader.now.shape.degree rows row)
+        (R.stream rng.old)).0) }
+    ensures rest { OnOk result
+        (R.stream rng.new
+        ≡ (encryption_draw reader.now.secret (row_message reader.now.shape.degree rows row)
+        (R.stream rng.old)).1) }
 {
     let shape = reader.tested().shape();
     let secret = reader.secret();
@@ -72,10 +81,16 @@ pub(crate) fn ask_ciphers<K: Link>(
 ) -> Result<Bytes, SearchFault>
     requires ready { K.is_ready link.old ≡ true }
     requires target { (target ≢ targets.Public) × (target ≢ targets.Keys) }
-    requires count { count * cipher_size reader.now.shape.degree ≡ reply_size reader.now.shape target }
-    ensures came { IfOk result (Gives reader.now.shape.degree count (K.exchanges link.old) (K.exchanges link.new) (record { target = target; body = queries })) }
-    ensures refused { IfErr result (RoundFails (reply_size reader.now.shape target) (K.exchanges link.old) (K.exchanges link.new) (record { target = target; body = queries })) }
-    ensures cause { LinkFails (K.faults link.old) (K.faults link.new) (K.last_failed link.new) (round_call reader.now.shape target) result }
+    requires count { count * cipher_size reader.now.shape.degree
+        ≡ reply_size reader.now.shape target }
+    ensures came { IfOk result
+        (Gives reader.now.shape.degree count (K.exchanges link.old) (K.exchanges link.new)
+        (record { target = target; body = queries })) }
+    ensures refused { IfErr result
+        (RoundFails (reply_size reader.now.shape target) (K.exchanges link.old)
+        (K.exchanges link.new) (record { target = target; body = queries })) }
+    ensures cause { LinkFails (K.faults link.old) (K.faults link.new) (K.last_failed link.new)
+        (round_call reader.now.shape target) result }
     ensures ready { K.is_ready link.new ≡ true }
     ensures beside { K.beside link.new ≡ K.beside link.old }
 {

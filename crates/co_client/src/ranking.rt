@@ -61,16 +61,27 @@ pub fn rank<K: Link, R: Rng>(
     requires ready { K.is_ready link.old ≡ true }
     requires sorted { IsStrictlySortedBy (slice_cmp nat_cmp) terms.now }
     requires few { length terms.now ≤ 2 ^ 32 }
-    ensures ranked { IfOk result (λ ranked. (messages : List (List ℕ)) → AreKeywordMessages reader.now.shape (numbers_of terms.now query.now) messages
-        → Ranks reader.now.shape reader.now.secret (K.exchanges link.old) (K.exchanges link.new) (queries_request targets.Score reader.now.secret messages (R.stream rng.old)) ranked.hits) }
+    ensures ranked { IfOk result (λ ranked. (messages : List (List ℕ))
+        → AreKeywordMessages reader.now.shape
+        (numbers_of terms.now query.now) messages
+        → Ranks reader.now.shape reader.now.secret (K.exchanges link.old) (K.exchanges link.new)
+        (queries_request targets.Score reader.now.secret messages (R.stream rng.old))
+        ranked.hits) }
     ensures few { IfOk result (λ ranked. length ranked.hits ≤ reader.now.shape.hits) }
     ensures unknown { IfOk result (λ ranked. ranked.unknown ≡ unknown_in terms.now query.now) }
-    ensures placed { IfOk result (λ ranked. ArePlaced reader.now.shape ranked.hits ranked.buckets ranked.refused) }
-    ensures rest { OnOk result ((messages : List (List ℕ)) → AreKeywordMessages reader.now.shape (numbers_of terms.now query.now) messages
+    ensures placed { IfOk result (λ ranked. ArePlaced reader.now.shape ranked.hits ranked.buckets
+        ranked.refused) }
+    ensures rest { OnOk result ((messages : List (List ℕ)) → AreKeywordMessages reader.now.shape
+        (numbers_of terms.now query.now) messages
         → R.stream rng.new ≡ queries_rest reader.now.secret messages (R.stream rng.old)) }
-    ensures refused { IfErr result (λ fault. (messages : List (List ℕ)) → AreKeywordMessages reader.now.shape (numbers_of terms.now query.now) messages
-        → RoundFails (reply_size reader.now.shape targets.Score) (K.exchanges link.old) (K.exchanges link.new) (queries_request targets.Score reader.now.secret messages (R.stream rng.old)) fault) }
-    ensures cause { LinkFails (K.faults link.old) (K.faults link.new) (K.last_failed link.new) (round_call reader.now.shape targets.Score) result }
+    ensures refused { IfErr result (λ fault. (messages : List (List ℕ))
+        → AreKeywordMessages reader.now.shape
+        (numbers_of terms.now query.now) messages
+        → RoundFails (reply_size reader.now.shape targets.Score) (K.exchanges link.old)
+        (K.exchanges link.new)
+        (queries_request targets.Score reader.now.secret messages (R.stream rng.old)) fault) }
+    ensures cause { LinkFails (K.faults link.old) (K.faults link.new) (K.last_failed link.new)
+        (round_call reader.now.shape targets.Score) result }
     ensures ready { K.is_ready link.new ≡ true }
     ensures beside { K.beside link.new ≡ K.beside link.old }
 {

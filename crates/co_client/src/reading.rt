@@ -33,8 +33,8 @@ fn piece_at(degree: Degree, body: &[u8], at: usize) -> &[u8]
     &body[start..start + size]
 }
 
-/// Checks that the body of a reply to a target spells so many ciphertexts, one of which is held at a
-/// time.
+/// Checks that the body of a reply to a target spells so many ciphertexts, one of which is held at
+/// a time.
 pub(crate) fn check_reply(
     alloc: Global,
     degree: Degree,
@@ -81,7 +81,9 @@ pub(crate) fn cipher_at(
     at: usize,
 ) -> Result<Cipher, AllocError>
     requires { (at + 1) * cipher_size degree ≤ length body.now }
-    ensures value { IfOk result (λ c. (cs : List Ciphertext) (count : ℕ) → SpellsCiphers degree count cs body.now → c ≡ ciphertext_at cs at) }
+    ensures value { IfOk result (λ c. (cs : List Ciphertext) (count : ℕ)
+        → SpellsCiphers degree count cs
+        body.now → c ≡ ciphertext_at cs at) }
     ensures degree { IfOk result (λ c. ciphertext_degree c ≡ degree) }
 {
     let _n = degree.get();
@@ -101,7 +103,8 @@ fn open_at(
 ) -> Result<Bytes, ByteFault>
     requires one_degree { length secret.now ≡ degree }
     requires whole { (at + 1) * cipher_size degree ≤ length body.now }
-    ensures opened { OpensTo degree body.now (λ cs. decrypted secret.now (ciphertext_at cs at)) result }
+    ensures opened { OpensTo degree body.now
+        (λ cs. decrypted secret.now (ciphertext_at cs at)) result }
     ensures within { IfErr result (IsPlaceBelow degree) }
     ensures long { IfOk result (λ bytes. length bytes ≡ 2 * degree) }
 {
@@ -113,8 +116,8 @@ fn open_at(
     open_reply(alloc, secret, &one)
 }
 
-/// Adds the bytes of the ciphertext at a place, the chunk of this number. The place of a fault counts
-/// the coefficients of earlier chunks, too.
+/// Adds the bytes of the ciphertext at a place, the chunk of this number. The place of a fault
+/// counts the coefficients of earlier chunks, too.
 fn open_one(
     alloc: Global,
     secret: &Secret,
@@ -127,9 +130,11 @@ fn open_one(
     requires one_degree { length secret.now ≡ degree }
     requires whole { (at + 1) * cipher_size degree ≤ length body.now }
     requires few { (chunk + 1) * degree ≤ 2 ^ 32 }
-    ensures bytes { OnOk result ((cs : List Ciphertext) (count : ℕ) → SpellsCiphers degree count cs body.now
+    ensures bytes { OnOk result
+        ((cs : List Ciphertext) (count : ℕ) → SpellsCiphers degree count cs body.now
         → AddsPayload bytes.old bytes.new (decrypted secret.now (ciphertext_at cs at))) }
-    ensures fault { IfErr result (λ fault. (cs : List Ciphertext) (count : ℕ) → SpellsCiphers degree count cs body.now
+    ensures fault { IfErr result (λ fault. (cs : List Ciphertext) (count : ℕ)
+        → SpellsCiphers degree count cs body.now
         → IsCauseFrom (chunk * degree) (decrypted secret.now (ciphertext_at cs at)) fault) }
     ensures long { OnOk result (length bytes.new ≡ length bytes.old + 2 * degree) }
 {
@@ -158,7 +163,8 @@ fn open_from(
     requires one_degree { length secret.now ≡ degree }
     requires whole { (from + count) * cipher_size degree ≤ length body.now }
     requires few { count * degree ≤ 2 ^ 32 }
-    ensures opened { OpensTo degree body.now (λ cs. opened_reply secret.now (part_of from count cs)) result }
+    ensures opened { OpensTo degree body.now
+        (λ cs. opened_reply secret.now (part_of from count cs)) result }
     ensures long { IfOk result (λ bytes. length bytes ≡ 2 * (count * degree)) }
 {
     let n = degree.get() as usize;
@@ -186,7 +192,9 @@ pub(crate) fn open_part(
     requires whole { (reply * count + count) * cipher_size degree ≤ length body.now }
     requires few { count * degree ≤ 2 ^ 32 }
     ensures read { (cs : List Ciphertext) (all : ℕ) → SpellsCiphers degree all cs body.now
-        → IsReadAs result (opened_bytes target reply (opened_reply secret.now (part_of (reply * count) count cs))) }
+        → IsReadAs result
+        (opened_bytes target reply
+        (opened_reply secret.now (part_of (reply * count) count cs))) }
     ensures long { IfOk result (λ bytes. length bytes ≡ 2 * (count * degree)) }
 {
     let from = reply as usize * count as usize;

@@ -16,7 +16,7 @@ ghost use Rattle.co_wire.specs.Lengths.{reply_size};
 ghost use Rattle.co_rounds.specs.Honest.{AreHonest};
 ghost use Rattle.co_rounds.specs.Plans.{made, Extends, FollowsPlan, IsWholePlan};
 ghost use Rattle.co_rounds.specs.Recording.{IsLibraryFor, is_within_bins};
-ghost use Rattle.co_client.specs.Causes.{Search, Publishes, IsRead, IsCause, IsAnswered, Asks};
+ghost use Rattle.co_client.specs.Causes.{search_by, Publishes, IsRead, IsCause, IsAnswered, Asks};
 ghost use Rattle.co_client.specs.Going.{GoesOn};
 ghost use Rattle.co_client.specs.Earlier.{EndsFirst};
 ghost use Rattle.co_client.specs.Plain.{AnswersPlainly};
@@ -90,7 +90,8 @@ fn conclude(refused: Option<Witness>, found: Found) -> Result<Found, SearchFault
     }
 }
 
-/// The answer by the ranked hits, their records, and the reply that spells the picked document's bin.
+/// The answer by the ranked hits, their records, and the reply that spells the picked document's
+/// bin.
 fn show(
     alloc: Global,
     reader: &Reader,
@@ -103,7 +104,8 @@ fn show(
     requires long { length records.now ≡ length (shown_of ranked.refused ranked.hits) }
     requires within { All (λ r. is_within_bins reader.now.shape r.place ≡ true) records.now }
     requires whole { length body.now ≡ reply_size reader.now.shape targets.Document }
-    ensures { (cs : List Ciphertext) → SpellsCiphers reader.now.shape.degree reader.now.shape.chunks cs body.now
+    ensures { (cs : List Ciphertext) → SpellsCiphers reader.now.shape.degree
+        reader.now.shape.chunks cs body.now
         → IsReadAs result (answer_read reader.now.secret cs ranked records.now pick) }
 {
     let document = read_document(alloc, reader, body, records, pick)?;
@@ -130,7 +132,9 @@ fn conduct<K: Link, R: Rng>(
 ) -> Result<Found, SearchFault>
     requires pick { 1 ≤ pick }
     requires ready { K.is_ready link.old ≡ true }
-    ensures told { Told (record { query = terms query.now; pick = pick; stream = R.stream rng.old; before = K.faults link.old; now = K.faults link.new; last_failed = K.last_failed link.new }) (K.exchanges link.old) (K.exchanges link.new) result (R.stream rng.new) }
+    ensures told { Told (search_by (terms query.now) pick (R.stream rng.old) (K.faults link.old)
+        (K.faults link.new) (K.last_failed link.new)) (K.exchanges link.old) (K.exchanges link.new)
+        result (R.stream rng.new) }
     ensures faults { K.faults link.old ≤ K.faults link.new }
     ensures ready { K.is_ready link.new ≡ true }
     ensures beside { K.beside link.new ≡ K.beside link.old }
@@ -152,8 +156,8 @@ fn conduct<K: Link, R: Rng>(
 ///
 /// The order of work: the keywords; the published parameters and their test; secret and keys are
 /// drawn; the exchanges for keys, scores, records and the document. Where the hits can't be placed,
-/// the last two rounds are made with rows and a bin that nobody needs, and then that is answered; so
-/// is the document's round where the pick is past the hits.
+/// the last two rounds are made with rows and a bin that nobody needs, and then that is answered;
+/// so is the document's round where the pick is past the hits.
 pub fn search<K: Link, R: Rng>(
     alloc: Global,
     link: &mut K,
@@ -163,35 +167,61 @@ pub fn search<K: Link, R: Rng>(
 ) -> Result<Found, SearchFault>
     requires pick { (1 ≤ pick) × (pick ≤ 64) }
     requires ready { K.is_ready link.old ≡ true }
-    // Over any link, one that doesn't tell its exchanges too: all that the search tells of those that it made.
-    ensures told { Told (record { query = terms query.now; pick = pick; stream = R.stream rng.old; before = K.faults link.old; now = K.faults link.new; last_failed = K.last_failed link.new }) (K.exchanges link.old) (K.exchanges link.new) result (R.stream rng.new) }
-    // Over exchanges that are honest to the library of a corpus: the plain answer exactly where its hits can be placed.
-    ensures plain { (es : List Exchange) → made (K.exchanges link.old) (K.exchanges link.new) ≡ Some es
-        → (documents : List Document) (settings : Settings) (l : Parts) (held : Option (List ℕ)) → IsLibraryFor documents settings l → AreHonest l held es
+    // Over any link, one that doesn't tell its exchanges too: all that the search tells of those
+    // that it made.
+    ensures told { Told (search_by (terms query.now) pick (R.stream rng.old) (K.faults link.old)
+        (K.faults link.new) (K.last_failed link.new)) (K.exchanges link.old) (K.exchanges link.new)
+        result (R.stream rng.new) }
+    // Over exchanges that are honest to the library of a corpus: the plain answer exactly where its
+    // hits can be placed.
+    ensures plain { (es : List Exchange) → made (K.exchanges link.old)
+        (K.exchanges link.new) ≡ Some es
+        → (documents : List Document) (settings : Settings) (l : Parts) (held : Option (List ℕ))
+        → IsLibraryFor documents settings l → AreHonest l held es
         → AnswersPlainly documents settings l (terms query.now) pick result }
     // And each ciphertext that it decrypts means its message, with twice its noise below q.
-    ensures sure { (es : List Exchange) → made (K.exchanges link.old) (K.exchanges link.new) ≡ Some es
-        → (documents : List Document) (settings : Settings) (l : Parts) (held : Option (List ℕ)) → IsLibraryFor documents settings l → AreHonest l held es
+    ensures sure { (es : List Exchange) → made (K.exchanges link.old)
+        (K.exchanges link.new) ≡ Some es
+        → (documents : List Document) (settings : Settings) (l : Parts) (held : Option (List ℕ))
+        → IsLibraryFor documents settings l → AreHonest l held es
         → (s : Numbers) (ts : List (List ℕ)) → Publishes es s ts → test_of s ≡ Ok s
-        → AreSure (record { query = terms query.now; pick = pick; stream = R.stream rng.old; before = K.faults link.old; now = K.faults link.new; last_failed = K.last_failed link.new }) es s ts }
-    // Over any exchanges: number, order and lengths of the requests follow the published parameters.
-    ensures planned { (es : List Exchange) → made (K.exchanges link.old) (K.exchanges link.new) ≡ Some es → FollowsPlan es }
-    ensures whole { (es : List Exchange) → made (K.exchanges link.old) (K.exchanges link.new) ≡ Some es → IsAnswered result → IsWholePlan es }
+        → AreSure (search_by (terms query.now) pick (R.stream rng.old) (K.faults link.old)
+        (K.faults link.new) (K.last_failed link.new)) es s ts }
+    // Over any exchanges: number, order and lengths of the requests follow the published
+    // parameters.
+    ensures planned { (es : List Exchange) → made (K.exchanges link.old) (K.exchanges link.new)
+        ≡ Some es → FollowsPlan es }
+    ensures whole { (es : List Exchange) → made (K.exchanges link.old) (K.exchanges link.new)
+        ≡ Some es → IsAnswered result → IsWholePlan es }
     // What is answered is read from the exchanges, and each refusal has its cause there.
-    ensures read { (es : List Exchange) → made (K.exchanges link.old) (K.exchanges link.new) ≡ Some es
-        → IfOk result (IsRead (record { query = terms query.now; pick = pick; stream = R.stream rng.old; before = K.faults link.old; now = K.faults link.new; last_failed = K.last_failed link.new }) es) }
-    ensures refused { (es : List Exchange) → made (K.exchanges link.old) (K.exchanges link.new) ≡ Some es
-        → IfErr result (IsCause (record { query = terms query.now; pick = pick; stream = R.stream rng.old; before = K.faults link.old; now = K.faults link.new; last_failed = K.last_failed link.new }) es) }
+    ensures read { (es : List Exchange) → made (K.exchanges link.old)
+        (K.exchanges link.new) ≡ Some es
+        → IfOk result
+        (IsRead (search_by (terms query.now) pick (R.stream rng.old) (K.faults link.old)
+        (K.faults link.new) (K.last_failed link.new)) es) }
+    ensures refused { (es : List Exchange) → made (K.exchanges link.old)
+        (K.exchanges link.new) ≡ Some es
+        → IfErr result
+        (IsCause (search_by (terms query.now) pick (R.stream rng.old) (K.faults link.old)
+        (K.faults link.new) (K.last_failed link.new)) es) }
     // It ends at the first cause: whatever it answers, it went past none of another refusal.
-    ensures earlier { (es : List Exchange) → made (K.exchanges link.old) (K.exchanges link.new) ≡ Some es → EndsFirst (record { query = terms query.now; pick = pick; stream = R.stream rng.old; before = K.faults link.old; now = K.faults link.new; last_failed = K.last_failed link.new }) es result }
+    ensures earlier { (es : List Exchange) → made (K.exchanges link.old) (K.exchanges link.new)
+        ≡ Some es
+        → EndsFirst (search_by (terms query.now) pick (R.stream rng.old) (K.faults link.old)
+        (K.faults link.new) (K.last_failed link.new)) es result }
     // Any other answer than too many keywords, or want of memory, comes only for few.
     ensures few { IsForFew (length (distinct (terms query.now))) result }
     // The requests are the drawn ones.
-    ensures asked { (es : List Exchange) → made (K.exchanges link.old) (K.exchanges link.new) ≡ Some es
+    ensures asked { (es : List Exchange) → made (K.exchanges link.old)
+        (K.exchanges link.new) ≡ Some es
         → (s : Numbers) (ts : List (List ℕ)) → Publishes es s ts → test_of s ≡ Ok s
-        → Asks (record { query = terms query.now; pick = pick; stream = R.stream rng.old; before = K.faults link.old; now = K.faults link.new; last_failed = K.last_failed link.new }) es s ts result (R.stream rng.new) }
+        → Asks (search_by (terms query.now) pick (R.stream rng.old) (K.faults link.old)
+        (K.faults link.new) (K.last_failed link.new)) es s ts result (R.stream rng.new) }
     // When one round follows another.
-    ensures goes_on { (es : List Exchange) → made (K.exchanges link.old) (K.exchanges link.new) ≡ Some es → GoesOn (record { query = terms query.now; pick = pick; stream = R.stream rng.old; before = K.faults link.old; now = K.faults link.new; last_failed = K.last_failed link.new }) es }
+    ensures goes_on { (es : List Exchange) → made (K.exchanges link.old) (K.exchanges link.new)
+        ≡ Some es
+        → GoesOn (search_by (terms query.now) pick (R.stream rng.old) (K.faults link.old)
+        (K.faults link.new) (K.last_failed link.new)) es }
     ensures extends { Extends (K.exchanges link.old) (K.exchanges link.new) }
     ensures faults { K.faults link.old ≤ K.faults link.new }
     ensures ready { K.is_ready link.new ≡ true }

@@ -63,10 +63,18 @@ pub fn start<K: Link, R: Rng>(
     tested: &Tested,
 ) -> Result<Reader, SearchFault>
     requires { K.is_ready link.old ≡ true }
-    ensures reader { IfOk result (λ r. r ≡ record { shape = tested.now; secret = (secret_draw tested.now.degree (R.stream rng.old)).0 }) }
+    ensures reader { IfOk result
+        (λ r. r
+        ≡
+        record
+        { shape = tested.now; secret = (secret_draw tested.now.degree (R.stream rng.old)).0 }) }
     ensures rest { OnOk result (R.stream rng.new ≡ (keys_asked tested.now (R.stream rng.old)).1) }
-    ensures came { OnOk result (Comes (K.exchanges link.old) (K.exchanges link.new) (keys_request tested.now (R.stream rng.old)) (reply_with 200 [])) }
-    ensures refused { IfErr result (RoundFails 0 (K.exchanges link.old) (K.exchanges link.new) (keys_request tested.now (R.stream rng.old))) }
+    ensures came { OnOk result
+        (Comes (K.exchanges link.old) (K.exchanges link.new)
+        (keys_request tested.now (R.stream rng.old)) (reply_with 200 [])) }
+    ensures refused { IfErr result
+        (RoundFails 0 (K.exchanges link.old) (K.exchanges link.new)
+        (keys_request tested.now (R.stream rng.old))) }
     ensures cause { LinkFails (K.faults link.old) (K.faults link.new) (K.last_failed link.new)
         (round_call tested.now targets.Keys) result }
     ensures ready { K.is_ready link.new ≡ true }

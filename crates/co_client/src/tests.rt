@@ -14,8 +14,8 @@ use rand_xoshiro::SplitMix64;
 use std::alloc::{AllocError, Global};
 use std::test::Fail;
 
-/// The published bytes of a library of degree 16 with one document, one term, one hit, one row and a
-/// bin of one chunk.
+/// The published bytes of a library of degree 16 with one document, one term, one hit, one row and
+/// a bin of one chunk.
 const PUBLIC: &[u8] =
     b"COEUSPB1\0\0\0\x10\0\0\0\x01\0\0\0\x01\0\0\0\x01\0\0\0\0\0\0\0\x01\0\0\0\x01\0\0\0\x01\x03sea";
 
@@ -63,8 +63,8 @@ fn put_reply(replies: &mut Vec<Reply>, body: Vec<u8>) -> Result<(), AllocError> 
     Ok(())
 }
 
-/// A link that plays a library's replies: the public bytes, none, the scores, and the record in each
-/// of three buckets.
+/// A link that plays a library's replies: the public bytes, none, the scores, and the record in
+/// each of three buckets.
 fn library(alloc: Global) -> Result<ScriptLink, AllocError> {
     let mut public = Vec::new(alloc);
     public.extend_from_slice(PUBLIC)?;

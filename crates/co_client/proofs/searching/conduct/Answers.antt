@@ -8,7 +8,7 @@ use Rattle.co_noise.specs.Shapes.{Numbers}
 use Rattle.co_noise.proofs.Ranges.{ranges}
 use Rattle.co_bucket.specs.Rows.{rows_of}
 use Rattle.co_rounds.specs.Recording.{is_within_bins}
-use Rattle.co_client.specs.Causes.{Search}
+use Rattle.co_client.specs.Causes.{Search, search_by}
 use Rattle.co_client.specs.Gathered.{with_bins}
 use Rattle.co_client.specs.Records.{picked_record, bin_asked}
 use Rattle.co_client.specs.Rounds.{ReaderState}
@@ -23,14 +23,7 @@ use Rattle.co_client.proofs.searching.conduct.Goals as goal
 -- ---- what has come so far of a search that ends with this link
 
 abbrev search-to : (g : Over) → List ℕ → ℕ → g.row.K → g.row.R → g.row.K → Search
-search-to g query pick link rng end = record {
-  query = terms query;
-  pick = pick;
-  stream = g.R.Rng.stream rng;
-  before = g.K.Link.faults link;
-  now = g.K.Link.faults end;
-  last_failed = g.K.Link.last_failed end;
-}
+search-to g query pick link rng end = search_by (terms query) pick (g.R.Rng.stream rng) (g.K.Link.faults link) (g.K.Link.faults end) (g.K.Link.last_failed end)
 
 has-begun : (g : Over) (c : In_ok-published g) (end : g.row.K)
     → Begun (search-to g c.args.query.now c.args.pick c.args.link.now c.args.rng.now end) (g.K.Link.exchanges c.args.link.now) (g.K.Link.exchanges c.consult.new.link)
