@@ -11,14 +11,12 @@ use Rattle.rand_core.specs.Stream.{Stream}
 use Rattle.co_link.specs.declared.messages.Target.TheVariants.{Score, Meta, Document as ForDocument}
 use Rattle.co_link.specs.declared.messages.Exchange.{Exchange}
 use Rattle.co_link.specs.Exchanges.{exchange_of}
-use Rattle.co_math.specs.Parameters.{q, plain_modulus, fresh_bound}
+use Rattle.co_math.specs.Parameters.{q, plain_modulus}
 use Rattle.co_math.specs.Residues.{residue}
-use Rattle.co_math.specs.Polynomials.{IsWrapped}
 use Rattle.co_math.specs.Coefficients.{coefficients, signed_coefficients, AreBelow, AreResidues}
 use Rattle.co_math.specs.Logarithms.{log2_up}
 use Rattle.co_math.proofs.Residues.{residue_small}
 use Rattle.co_math.proofs.Terms.{coefficient-low}
-use Rattle.co_ring.specs.Polynomials.{polynomial_of}
 use Rattle.co_noise.specs.Shapes.{Numbers, levels, keyword_blocks as keyword_blocks_of, document_blocks}
 use Rattle.co_noise.specs.Bounds.{score_bound, retrieve_bound, test_of}
 use Rattle.co_bfv.specs.Secrets.{IsTernary}
@@ -32,14 +30,11 @@ use Rattle.co_switch.specs.Keys.{Keys}
 use Rattle.co_matvec.specs.Weights.{numbers_of, keyword_blocks}
 use Rattle.co_matvec.specs.Replies.{CanScore, AreKeywords, AreScoreReplies}
 use Rattle.co_matvec.proofs.Lawful.{replies_show}
-use Rattle.co_pir.specs.Messages.{query_polynomial}
 use Rattle.co_pir.specs.Tables.{Table, IsTable, piece, payload, row_bytes}
-use Rattle.co_pir.specs.Meanings.{AsksRow, CanRetrieve, MeansBytes}
 use Rattle.co_pir.specs.Expansions.{expanded}
 use Rattle.co_pir.specs.Replies.{retrieved}
 use Rattle.co_pir.proofs.Replied.{length-payload}
 use Rattle.co_pir.proofs.Gathering.{length-table_reply, table_reply-degrees}
-use Rattle.co_pir.proofs.Retrieved.{retrieved_means}
 use Rattle.co_bucket.specs.Lists.{bucket_count, candidates_of}
 use Rattle.co_bucket.specs.Bytes.{record_chunks}
 use Rattle.co_bucket.specs.Placement.{IsPlacement}

@@ -48,8 +48,8 @@ pub record Search : Type 0 where
 
 -- the same of its values in this order
 abbrev pub search_by : List (List ℕ) → ℕ → Stream → ℕ → ℕ → Option LinkCall → Search
-search_by terms pick words was is last =
-    record { query = terms; pick = pick; stream = words; before = was; now = is; last_failed = last }
+search_by ts pick words was is last =
+    record { query = ts; pick = pick; stream = words; before = was; now = is; last_failed = last }
 
 -- ---- what exchanges show
 

@@ -1,6 +1,6 @@
 //! One exchange of a search.
 
-ghost use Rattle.std.specs.Prelude.{◌≡◌, ◌≤◌, true, IfOk, IfErr};
+ghost use Rattle.std.specs.Prelude.{◌≡◌, true, IfOk, IfErr};
 ghost use Rattle.co_rounds.specs.Answers.{reply_with};
 ghost use Rattle.co_math.specs.Coefficients.{AreBelow};
 ghost use Rattle.co_client.specs.Rounds.{Comes, AskFails, LinkFails};

@@ -1,6 +1,6 @@
 //! Which bucket each hit is asked of, and where its record stands there.
 
-ghost use Rattle.std.specs.Prelude.{◌≡◌, ◌<◌, ◌≤◌, ℕ, List, Option, length, map, take, Some, None, ◌==◌, slice_index_or, IfOk, IfSome};
+ghost use Rattle.std.specs.Prelude.{◌≡◌, ◌<◌, ◌≤◌, ℕ, Option, length, map, Some, None, ◌==◌, slice_index_or, IfOk, IfSome};
 ghost use Rattle.std.specs.List.{position, All};
 ghost use Rattle.std.specs.Option.{unwrap_or};
 ghost use Rattle.std.specs.Ordering.{nat_cmp};

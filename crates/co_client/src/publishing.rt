@@ -1,6 +1,6 @@
 //! The round of the published parameters.
 
-ghost use Rattle.std.specs.Prelude.{◌≡◌, [], true, IfOk, IfErr};
+ghost use Rattle.std.specs.Prelude.{◌≡◌, true, IfOk, IfErr};
 ghost use Rattle.co_link.specs.declared.messages.Target.TheVariants as targets;
 ghost use Rattle.co_wire.specs.Lengths.{most_public};
 ghost use Rattle.co_client.specs.Rounds.{LinkFails};

@@ -1,6 +1,6 @@
 //! The round of the records.
 
-ghost use Rattle.std.specs.Prelude.{◌≡◌, ◌+◌, ◌*◌, ◌<◌, ◌≤◌, true, ℕ, List, Option, Some, None, Ok, length, map, slice_index, slice_index_or, IfOk, IfErr, OnOk};
+ghost use Rattle.std.specs.Prelude.{◌≡◌, ◌+◌, ◌*◌, ◌<◌, ◌≤◌, true, ℕ, List, Option, Some, None, Ok, length, map, IfOk, IfErr, OnOk};
 ghost use Rattle.std.specs.List.{All, position};
 ghost use Rattle.co_link.specs.declared.messages.Target.TheVariants as targets;
 ghost use Rattle.co_bucket.specs.Lists.{bucket_count};

@@ -1,6 +1,6 @@
 //! The round of the keys.
 
-ghost use Rattle.std.specs.Prelude.{◌≡◌, ◌≤◌, [], true, length, IfOk, IfErr, OnOk};
+ghost use Rattle.std.specs.Prelude.{◌≡◌, [], true, length, IfOk, IfErr, OnOk};
 ghost use Rattle.co_link.specs.declared.messages.Target.TheVariants as targets;
 ghost use Rattle.co_bfv.specs.Draws.{secret_draw};
 ghost use Rattle.co_rounds.specs.Answers.{reply_with};
