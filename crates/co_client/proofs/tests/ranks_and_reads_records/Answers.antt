@@ -13,6 +13,6 @@ rank-requires-clause-few c =
     let good = c.in_ok-published.ensures.found.public.good in
     omega (arith, good.count, (ranges c.in_ok-published.published.tested good.good.ranges).terms_high)
 
-pub records-read-requires-clause-rows : goal.records-read-requires-clause-rows
-records-read-requires-clause-rows c =
+pub records-requires-clause-rows : goal.records-requires-clause-rows
+records-requires-clause-rows c =
     subst (λ (x : ReaderState). x.shape.rows ≡ rows_of x.shape.degree x.shape.documents x.shape.hits x.shape.salt) (sym c.in_ok-reader.ensures.reader) c.in_ok-published.ensures.found.public.good.good.rows
