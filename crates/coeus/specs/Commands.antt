@@ -1,5 +1,6 @@
 -- What the program's own types stand for.
-use Rattle.std.specs.Prelude.{◌≤◌, map, option_map, string_bytes}
+use Rattle.std.specs.Prelude.{◌≤◌, ℕ, List, map, option_map, String, string_bytes}
+use Rattle.std.specs.Borrow.{Bor}
 use Rattle.coeus.specs.Words.{Rest, PlainWords, ImportWords, LocalWords, ServeWords, SearchWords, Spoken, SpokenPlain, SpokenImport, SpokenShape, SpokenLocal, SpokenServe, SpokenSearch, SpokenRehearse, SpokenWrong}
 use Rattle.coeus.specs.declared.options.OptionsAndQuery.{OptionsAndQuery}
 use Rattle.coeus.specs.declared.words.PlainCommand.{PlainCommand}
@@ -11,9 +12,12 @@ use Rattle.coeus.specs.declared.words.RehearseCommand.{RehearseCommand}
 use Rattle.coeus.specs.declared.words.Command.{Command}
 use Rattle.coeus.specs.declared.words.Command.TheVariants.{Plain, Import, Shape, Local, Serve, Search, Rehearse, Wrong}
 
+-- the bytes of each word
+abbrev pub shown : {Y : Type 0} → Bor (List (String Y)) → List (List ℕ)
+shown words = map string_bytes words.now
+
 abbrev pub rest_shown : OptionsAndQuery → Rest
-rest_shown r =
-    record { options = r.options; query = option_map (λ q. map string_bytes q.now) r.query }
+rest_shown r = record { options = r.options; query = option_map shown r.query }
 
 abbrev pub plain_shown : PlainCommand → PlainWords
 plain_shown p = record {
@@ -21,19 +25,15 @@ plain_shown p = record {
   terms = p.terms;
   hits = p.hits;
   pick = p.pick;
-  query = map string_bytes p.query.now;
+  query = shown p.query;
 }
 
 abbrev pub import_shown : ImportCommand → ImportWords
 import_shown i = record { corpus = i.corpus.now; library = i.library.now; settings = i.settings }
 
 abbrev pub local_shown : LocalCommand → LocalWords
-local_shown l = record {
-  library = l.library.now;
-  pick = l.pick;
-  workers = l.workers;
-  query = map string_bytes l.query.now;
-}
+local_shown l =
+    record { library = l.library.now; pick = l.pick; workers = l.workers; query = shown l.query }
 
 abbrev pub serve_shown : ServeCommand → ServeWords
 serve_shown s = record {
@@ -44,12 +44,8 @@ serve_shown s = record {
 }
 
 abbrev pub search_shown : SearchCommand → SearchWords
-search_shown s = record {
-  host = s.host.now;
-  port = s.port;
-  pick = s.pick;
-  query = map string_bytes s.query.now;
-}
+search_shown s =
+    record { host = s.host.now; port = s.port; pick = s.pick; query = shown s.query }
 
 abbrev pub command_shown : Command → Spoken
 command_shown (Plain p) = SpokenPlain (plain_shown p)

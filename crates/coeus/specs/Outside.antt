@@ -53,32 +53,6 @@ pub record Outside : Type 0 where
 
 -- ---- the same by their parts
 
-abbrev pub files_state : Option Folder → ℕ → Option FileCall → FilesState
-files_state held faults last_failed =
-    record { held = held; faults = faults; last_failed = last_failed }
-
-abbrev pub sink_state : Option (List ℕ) → ℕ → SinkState
-sink_state bytes faults = record { bytes = bytes; faults = faults }
-
-abbrev pub dial_state : Option (List Exchange) → ℕ → Option LinkCall → ℕ → Option DialCall → DialState
-dial_state exchanges faults last_failed dials last_dial = record {
-  exchanges = exchanges;
-  faults = faults;
-  last_failed = last_failed;
-  dials = dials;
-  last_dial = last_dial;
-}
-
-abbrev pub port_state : PortTells → ℕ → Option (List ℕ) → Option (List ℕ) → ℕ → ℕ → PortState
-port_state tells faults left put take_faults put_faults = record {
-  tells = tells;
-  faults = faults;
-  left = left;
-  put = put;
-  take_faults = take_faults;
-  put_faults = put_faults;
-}
-
 abbrev pub devices : Stream → DialState → PortState → Devices
 devices random dial port = record { random = random; dial = dial; port = port }
 
@@ -89,20 +63,32 @@ outside files devices out = record { files = files; devices = devices; out = out
 
 abbrev pub files_by : {F : Type 0} → (F → Option Folder) → (F → ℕ) → (F → Option FileCall) → F
     → FilesState
-files_by held faults last_failed f = files_state (held f) (faults f) (last_failed f)
+files_by held faults last_failed f =
+    record { held = held f; faults = faults f; last_failed = last_failed f }
 
 abbrev pub sink_by : {S : Type 0} → (S → Option (List ℕ)) → (S → ℕ) → S → SinkState
-sink_by bytes faults s = sink_state (bytes s) (faults s)
+sink_by bytes faults s = record { bytes = bytes s; faults = faults s }
 
 abbrev pub dial_by : {D : Type 0} → (D → Option (List Exchange)) → (D → ℕ) → (D → Option LinkCall)
     → (D → ℕ) → (D → Option DialCall) → D → DialState
-dial_by exchanges faults last_failed dials last_dial d =
-    dial_state (exchanges d) (faults d) (last_failed d) (dials d) (last_dial d)
+dial_by exchanges faults last_failed dials last_dial d = record {
+  exchanges = exchanges d;
+  faults = faults d;
+  last_failed = last_failed d;
+  dials = dials d;
+  last_dial = last_dial d;
+}
 
 abbrev pub port_by : {P : Type 0} → (P → PortTells) → (P → ℕ) → (P → Option (List ℕ))
     → (P → Option (List ℕ)) → (P → ℕ) → (P → ℕ) → P → PortState
-port_by tells faults left put take_faults put_faults p =
-    port_state (tells p) (faults p) (left p) (put p) (take_faults p) (put_faults p)
+port_by tells faults left put take_faults put_faults p = record {
+  tells = tells p;
+  faults = faults p;
+  left = left p;
+  put = put p;
+  take_faults = take_faults p;
+  put_faults = put_faults p;
+}
 
 -- ---- what changed
 

@@ -8,6 +8,8 @@ use Rattle.std.specs.Str.Parse.{digits_value}
 use Rattle.co_noise.specs.Shapes.{Numbers, numbers, shape_of, is_within}
 use Rattle.co_library.specs.declared.settings.Settings.{Settings}
 use Rattle.coeus.specs.declared.options.Options.{Options}
+use Rattle.coeus.specs.declared.options.OptionName.{OptionName}
+use Rattle.coeus.specs.declared.options.OptionName.TheVariants.{Degree, Terms, Hits, Salt, Chunks, Pick, Workers, Port, Connections}
 use Rattle.coeus.specs.declared.words.RehearseCommand.{RehearseCommand}
 use Rattle.coeus.specs.declared.limits.TheConstants.{DEFAULT_DEGREE, DEFAULT_TERMS, DEFAULT_HITS, DEFAULT_SALT, DEFAULT_CHUNKS, DEFAULT_PICK, DEFAULT_WORKERS, DEFAULT_PORT, DEFAULT_CONNECTIONS, MAX_PICK, MAX_WORKERS, MAX_PORT, MAX_CONNECTIONS, SHORT_DIGITS}
 
@@ -52,32 +54,53 @@ no_options = record {
   connections = None;
 }
 
+-- the option that a word names
+abbrev pub option_named : List ℕ → Option OptionName
+option_named word =
+    if bytes_eq word (codes "--degree") then Some Degree
+    else if bytes_eq word (codes "--terms") then Some Terms
+    else if bytes_eq word (codes "--hits") then Some Hits
+    else if bytes_eq word (codes "--salt") then Some Salt
+    else if bytes_eq word (codes "--chunks") then Some Chunks
+    else if bytes_eq word (codes "--pick") then Some Pick
+    else if bytes_eq word (codes "--workers") then Some Workers
+    else if bytes_eq word (codes "--port") then Some Port
+    else if bytes_eq word (codes "--connections") then Some Connections
+    else None
+
+-- the number that was given for an option
+abbrev pub given : Options → OptionName → Option ℕ
+given o Degree = o.degree
+given o Terms = o.terms
+given o Hits = o.hits
+given o Salt = o.salt
+given o Chunks = o.chunks
+given o Pick = o.pick
+given o Workers = o.workers
+given o Port = o.port
+given o Connections = o.connections
+
+-- the options with this number for one
+abbrev pub giving : Options → OptionName → ℕ → Options
+giving o Degree n = record o { degree = Some n }
+giving o Terms n = record o { terms = Some n }
+giving o Hits n = record o { hits = Some n }
+giving o Salt n = record o { salt = Some n }
+giving o Chunks n = record o { chunks = Some n }
+giving o Pick n = record o { pick = Some n }
+giving o Workers n = record o { workers = Some n }
+giving o Port n = record o { port = Some n }
+giving o Connections n = record o { connections = Some n }
+
 -- the number of an option that is given once
 abbrev pub once : Option ℕ → List ℕ → Option ℕ
 once before value = if is_some before then None else short_number value
 
 -- the options with one more, by its name and value
 unfoldable pub with_option : Options → List ℕ → List ℕ → Option Options
-with_option o name value =
-    if bytes_eq name (codes "--degree")
-    then option_map (λ n. record o { degree = Some n }) (once o.degree value)
-    else if bytes_eq name (codes "--terms")
-    then option_map (λ n. record o { terms = Some n }) (once o.terms value)
-    else if bytes_eq name (codes "--hits")
-    then option_map (λ n. record o { hits = Some n }) (once o.hits value)
-    else if bytes_eq name (codes "--salt")
-    then option_map (λ n. record o { salt = Some n }) (once o.salt value)
-    else if bytes_eq name (codes "--chunks")
-    then option_map (λ n. record o { chunks = Some n }) (once o.chunks value)
-    else if bytes_eq name (codes "--pick")
-    then option_map (λ n. record o { pick = Some n }) (once o.pick value)
-    else if bytes_eq name (codes "--workers")
-    then option_map (λ n. record o { workers = Some n }) (once o.workers value)
-    else if bytes_eq name (codes "--port")
-    then option_map (λ n. record o { port = Some n }) (once o.port value)
-    else if bytes_eq name (codes "--connections")
-    then option_map (λ n. record o { connections = Some n }) (once o.connections value)
-    else None
+with_option o word value =
+    option_and_then (λ name. option_map (giving o name) (once (given o name) value))
+    (option_named word)
 
 -- what stands behind the positional words: options in any order, then `--` and a query, if any
 pub record Rest : Type 0 where

@@ -4,7 +4,7 @@ ghost use Rattle.std.specs.Char.{is_ascii_digit};
 ghost use Rattle.std.specs.List.{list_all};
 ghost use Rattle.std.specs.Str.Parse.{digits_value};
 ghost use Rattle.coeus.specs.Words.{are_digits, digits_number, short_number, long_number};
-ghost use Rattle.coeus.specs.Words.{once, with_option};
+ghost use Rattle.coeus.specs.Words.{option_named, given, giving, once, with_option};
 ghost use Rattle.coeus.specs.Words.{no_options, rest_of, number_within, pick_of, workers_of};
 ghost use Rattle.coeus.specs.Words.{port_of, connections_of, from_one, port_word};
 ghost use Rattle.coeus.specs.Words.{none_for_publishing, none_for_serving};
@@ -17,6 +17,20 @@ use crate::limits::{
     DEFAULT_CONNECTIONS, DEFAULT_PICK, DEFAULT_PORT, DEFAULT_WORKERS, LONG_DIGITS, MAX_CONNECTIONS,
     MAX_PICK, MAX_PORT, MAX_WORKERS, SHORT_DIGITS,
 };
+
+/// The name of an option.
+#[derive(Clone, Copy)]
+pub enum OptionName {
+    Degree,
+    Terms,
+    Hits,
+    Salt,
+    Chunks,
+    Pick,
+    Workers,
+    Port,
+    Connections,
+}
 
 /// The options that were given, each with its number.
 #[derive(Clone, Copy)]
@@ -105,6 +119,24 @@ pub fn read_long(word: &str) -> Option<u64>
     u64::try_from(read_digits(word, LONG_DIGITS)?).ok()
 }
 
+// The option that a word names.
+fn option_named(word: &str) -> Option<OptionName>
+    ensures { result ≡ option_named word.now }
+{
+    match word {
+        "--degree" => Some(OptionName::Degree),
+        "--terms" => Some(OptionName::Terms),
+        "--hits" => Some(OptionName::Hits),
+        "--salt" => Some(OptionName::Salt),
+        "--chunks" => Some(OptionName::Chunks),
+        "--pick" => Some(OptionName::Pick),
+        "--workers" => Some(OptionName::Workers),
+        "--port" => Some(OptionName::Port),
+        "--connections" => Some(OptionName::Connections),
+        _ => None,
+    }
+}
+
 // The number of an option that is given once.
 fn once(before: Option<u32>, value: &str) -> Option<u32>
     ensures { result ≡ once before value.now }
@@ -159,51 +191,50 @@ impl Options {
         }
     }
 
+    // The number that was given for an option.
+    fn given(self, name: OptionName) -> Option<u32>
+        ensures { result ≡ given self name }
+    {
+        match name {
+            OptionName::Degree => self.degree,
+            OptionName::Terms => self.terms,
+            OptionName::Hits => self.hits,
+            OptionName::Salt => self.salt,
+            OptionName::Chunks => self.chunks,
+            OptionName::Pick => self.pick,
+            OptionName::Workers => self.workers,
+            OptionName::Port => self.port,
+            OptionName::Connections => self.connections,
+        }
+    }
+
+    // Gives the number of an option.
+    fn give(&mut self, name: OptionName, number: u32)
+        ensures { self.new ≡ giving self.old name number }
+    {
+        match name {
+            OptionName::Degree => self.degree = Some(number),
+            OptionName::Terms => self.terms = Some(number),
+            OptionName::Hits => self.hits = Some(number),
+            OptionName::Salt => self.salt = Some(number),
+            OptionName::Chunks => self.chunks = Some(number),
+            OptionName::Pick => self.pick = Some(number),
+            OptionName::Workers => self.workers = Some(number),
+            OptionName::Port => self.port = Some(number),
+            OptionName::Connections => self.connections = Some(number),
+        }
+    }
+
     // The options with one more, by its name and value.
     #[tactic(auto, unfolding(crate::specs::Words::with_option))]
-    fn with(self, name: &str, value: &str) -> Option<Self>
-        ensures { result ≡ with_option self name.now value.now }
+    fn with(self, word: &str, value: &str) -> Option<Self>
+        ensures { result ≡ with_option self word.now value.now }
     {
-        if name == "--degree" {
-            let degree = Some(once(self.degree, value)?);
-            return Some(Options { degree, ..self });
-        }
-        if name == "--terms" {
-            let terms = Some(once(self.terms, value)?);
-            return Some(Options { terms, ..self });
-        }
-        if name == "--hits" {
-            let hits = Some(once(self.hits, value)?);
-            return Some(Options { hits, ..self });
-        }
-        if name == "--salt" {
-            let salt = Some(once(self.salt, value)?);
-            return Some(Options { salt, ..self });
-        }
-        if name == "--chunks" {
-            let chunks = Some(once(self.chunks, value)?);
-            return Some(Options { chunks, ..self });
-        }
-        if name == "--pick" {
-            let pick = Some(once(self.pick, value)?);
-            return Some(Options { pick, ..self });
-        }
-        if name == "--workers" {
-            let workers = Some(once(self.workers, value)?);
-            return Some(Options { workers, ..self });
-        }
-        if name == "--port" {
-            let port = Some(once(self.port, value)?);
-            return Some(Options { port, ..self });
-        }
-        if name == "--connections" {
-            let connections = Some(once(self.connections, value)?);
-            return Some(Options {
-                connections,
-                ..self
-            });
-        }
-        None
+        let name = option_named(word)?;
+        let number = once(self.given(name), value)?;
+        let mut options = self;
+        options.give(name, number);
+        Some(options)
     }
 
     // Whether no option of how a corpus is published was given.

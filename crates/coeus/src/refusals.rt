@@ -5,7 +5,7 @@ ghost use Rattle.co_link.specs.Held.{TookWhole};
 ghost use Rattle.coeus.specs.Refusals.{status_of, status_of_corpus, status_of_publishing, name_of};
 ghost use Rattle.coeus.specs.Refusals.{with_number, line_text, corpus_text, test_text};
 ghost use Rattle.coeus.specs.Refusals.{setting_text, publishing_text, text_of, flat, Says};
-ghost use Rattle.coeus.specs.Outside.{sink_state};
+ghost use Rattle.coeus.specs.Outside.{sink_by};
 
 use crate::search_faults::{say_search, status_of_search};
 use co_client::SearchFault;
@@ -107,9 +107,8 @@ pub fn put_parts<E: Sink>(parts: &[&str], err: &mut E)
 
 /// Says a text as a line on the error output. Its failure is let go.
 pub fn say<E: Sink>(parts: &[&str], err: &mut E)
-    ensures { let was = sink_state (E.put_so_far err.old) (E.faults err.old) in
-        let is = sink_state (E.put_so_far err.new) (E.faults err.new) in
-        Says (flat (map (λ part. part.now) parts.now)) was is }
+    ensures { let at = sink_by E.put_so_far E.faults in
+        Says (flat (map (λ part. part.now) parts.now)) (at err.old) (at err.new) }
 {
     put_parts(&["coeus: "], err);
     put_parts(parts, err);
@@ -118,9 +117,8 @@ pub fn say<E: Sink>(parts: &[&str], err: &mut E)
 
 /// Says a text with a number in it.
 pub fn say_number<E: Sink>(before: &str, number: u128, after: &str, err: &mut E)
-    ensures { let was = sink_state (E.put_so_far err.old) (E.faults err.old) in
-        let is = sink_state (E.put_so_far err.new) (E.faults err.new) in
-        Says (with_number before.now number after.now) was is }
+    ensures { let at = sink_by E.put_so_far E.faults in
+        Says (with_number before.now number after.now) (at err.old) (at err.new) }
 {
     let mut digits = Buffer::new();
     say(&[before, digits.format(number), after], err);
@@ -128,9 +126,8 @@ pub fn say_number<E: Sink>(before: &str, number: u128, after: &str, err: &mut E)
 
 // Says at which line a file isn't a corpus.
 fn say_line<E: Sink>(line: u64, what: &str, err: &mut E)
-    ensures { let was = sink_state (E.put_so_far err.old) (E.faults err.old) in
-        let is = sink_state (E.put_so_far err.new) (E.faults err.new) in
-        Says (line_text line what.now) was is }
+    ensures { let at = sink_by E.put_so_far E.faults in
+        Says (line_text line what.now) (at err.old) (at err.new) }
 {
     let mut digits = Buffer::new();
     say(&["corpus line ", digits.format(line), ": ", what], err);
@@ -138,9 +135,8 @@ fn say_line<E: Sink>(line: u64, what: &str, err: &mut E)
 
 // Says why a file isn't a corpus.
 fn say_corpus<E: Sink>(fault: CorpusFault, err: &mut E)
-    ensures { let was = sink_state (E.put_so_far err.old) (E.faults err.old) in
-        let is = sink_state (E.put_so_far err.new) (E.faults err.new) in
-        Says (corpus_text fault) was is }
+    ensures { let at = sink_by E.put_so_far E.faults in
+        Says (corpus_text fault) (at err.old) (at err.new) }
 {
     match fault {
         CorpusFault::Empty => say(&["corpus: no document"], err),
@@ -156,9 +152,8 @@ fn say_corpus<E: Sink>(fault: CorpusFault, err: &mut E)
 
 /// Says by which comparison a shape fails the test.
 pub fn say_test<E: Sink>(fault: TestFault, err: &mut E)
-    ensures { let was = sink_state (E.put_so_far err.old) (E.faults err.old) in
-        let is = sink_state (E.put_so_far err.new) (E.faults err.new) in
-        Says (test_text fault) was is }
+    ensures { let at = sink_by E.put_so_far E.faults in
+        Says (test_text fault) (at err.old) (at err.new) }
 {
     match fault {
         TestFault::RowsOverDegree { rows, degree } => {
@@ -174,26 +169,26 @@ pub fn say_test<E: Sink>(fault: TestFault, err: &mut E)
     }
 }
 
-// The text of a setting that is out of its range.
-fn setting_text(which: SettingName) -> &'static str
-    ensures { result.now ≡ setting_text which }
+// Says which setting is out of its range.
+fn say_setting<E: Sink>(which: SettingName, err: &mut E)
+    ensures { let at = sink_by E.put_so_far E.faults in
+        Says (setting_text which) (at err.old) (at err.new) }
 {
     match which {
-        SettingName::Degree => "setting degree out of range",
-        SettingName::Terms => "setting terms out of range",
-        SettingName::Hits => "setting hits out of range",
-        SettingName::Chunks => "setting chunks out of range",
+        SettingName::Degree => say(&["setting degree out of range"], err),
+        SettingName::Terms => say(&["setting terms out of range"], err),
+        SettingName::Hits => say(&["setting hits out of range"], err),
+        SettingName::Chunks => say(&["setting chunks out of range"], err),
     }
 }
 
 // Says why a corpus isn't published.
 fn say_publishing<E: Sink>(fault: PublishFault, err: &mut E)
-    ensures { let was = sink_state (E.put_so_far err.old) (E.faults err.old) in
-        let is = sink_state (E.put_so_far err.new) (E.faults err.new) in
-        Says (publishing_text fault) was is }
+    ensures { let at = sink_by E.put_so_far E.faults in
+        Says (publishing_text fault) (at err.old) (at err.new) }
 {
     match fault {
-        PublishFault::Setting { which } => say(&[setting_text(which)], err),
+        PublishFault::Setting { which } => say_setting(which, err),
         PublishFault::TooManyWeights { entries } => {
             say_number("too many weights ", entries as u128, "", err);
         }
@@ -222,9 +217,8 @@ fn name_of(kind: FileKind, words: &[String]) -> &str
 /// Says a refusal on the error output, and gives its status. It takes no memory.
 pub fn tell<E: Sink>(words: &[String], refusal: Refusal, err: &mut E) -> u8
     ensures status { result ≡ status_of refusal }
-    ensures says { let was = sink_state (E.put_so_far err.old) (E.faults err.old) in
-        let is = sink_state (E.put_so_far err.new) (E.faults err.new) in
-        Says (text_of (map string_bytes words.now) refusal) was is }
+    ensures says { let at = sink_by E.put_so_far E.faults in
+        Says (text_of (map string_bytes words.now) refusal) (at err.old) (at err.new) }
 {
     let status = refusal.status();
     match refusal {

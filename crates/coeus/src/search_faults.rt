@@ -2,7 +2,7 @@
 ghost use Rattle.std.specs.Prelude.{◌≡◌, ◌≤◌};
 ghost use Rattle.co_link.specs.Causes.{Rose};
 ghost use Rattle.co_link.specs.Held.{TookWhole};
-ghost use Rattle.coeus.specs.Outside.{sink_state};
+ghost use Rattle.coeus.specs.Outside.{sink_by};
 ghost use Rattle.coeus.specs.Refusals.{round_name, status_of_refused, status_of_search};
 ghost use Rattle.coeus.specs.Refusals.{round_text, two_numbers, byte_text, numbers_text};
 ghost use Rattle.coeus.specs.Refusals.{witness_text, search_text, Says};
@@ -54,9 +54,8 @@ pub fn status_of_search(fault: &SearchFault) -> u8
 
 // Says a text with a round and a number.
 fn say_round<E: Sink>(before: &'static str, target: Target, number: u64, err: &mut E)
-    ensures { let was = sink_state (E.put_so_far err.old) (E.faults err.old) in
-        let is = sink_state (E.put_so_far err.new) (E.faults err.new) in
-        Says (round_text before.now target number) was is }
+    ensures { let at = sink_by E.put_so_far E.faults in
+        Says (round_text before.now target number) (at err.old) (at err.new) }
 {
     let mut digits = Buffer::new();
     say(
@@ -67,9 +66,8 @@ fn say_round<E: Sink>(before: &'static str, target: Target, number: u64, err: &m
 
 // Says a text with two numbers behind it.
 fn say_two<E: Sink>(before: &str, first: u32, second: u32, err: &mut E)
-    ensures { let was = sink_state (E.put_so_far err.old) (E.faults err.old) in
-        let is = sink_state (E.put_so_far err.new) (E.faults err.new) in
-        Says (two_numbers before.now first second) was is }
+    ensures { let at = sink_by E.put_so_far E.faults in
+        Says (two_numbers before.now first second) (at err.old) (at err.new) }
 {
     let mut digits = Buffer::new();
     let mut more_digits = Buffer::new();
@@ -80,9 +78,8 @@ fn say_two<E: Sink>(before: &str, first: u32, second: u32, err: &mut E)
 
 // Says which coefficient of an opened reply is no two bytes.
 fn say_byte<E: Sink>(target: Target, reply: u32, place: u32, err: &mut E)
-    ensures { let was = sink_state (E.put_so_far err.old) (E.faults err.old) in
-        let is = sink_state (E.put_so_far err.new) (E.faults err.new) in
-        Says (byte_text target reply place) was is }
+    ensures { let at = sink_by E.put_so_far E.faults in
+        Says (byte_text target reply place) (at err.old) (at err.new) }
 {
     let mut digits = Buffer::new();
     let mut more_digits = Buffer::new();
@@ -121,9 +118,8 @@ fn put_witness<E: Sink>(documents: &[u32], buckets: &[u32], err: &mut E)
 
 // Says which documents have too few buckets.
 fn say_witness<E: Sink>(documents: &[u32], buckets: &[u32], err: &mut E)
-    ensures { let was = sink_state (E.put_so_far err.old) (E.faults err.old) in
-        let is = sink_state (E.put_so_far err.new) (E.faults err.new) in
-        Says (witness_text documents.now buckets.now) was is }
+    ensures { let at = sink_by E.put_so_far E.faults in
+        Says (witness_text documents.now buckets.now) (at err.old) (at err.new) }
 {
     put_parts(&["coeus: "], err);
     put_witness(documents, buckets, err);
@@ -132,9 +128,8 @@ fn say_witness<E: Sink>(documents: &[u32], buckets: &[u32], err: &mut E)
 
 /// Says why a search gives no answer.
 pub fn say_search<E: Sink>(fault: &SearchFault, err: &mut E)
-    ensures { let was = sink_state (E.put_so_far err.old) (E.faults err.old) in
-        let is = sink_state (E.put_so_far err.new) (E.faults err.new) in
-        Says (search_text fault.now) was is }
+    ensures { let at = sink_by E.put_so_far E.faults in
+        Says (search_text fault.now) (at err.old) (at err.new) }
 {
     match fault {
         SearchFault::TooManyKeywords { found } => {

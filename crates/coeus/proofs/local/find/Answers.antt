@@ -1,5 +1,5 @@
 use Rattle.coeus.specs.Commands.{local_shown}
-use Rattle.coeus.specs.Outside.{files_state}
+use Rattle.coeus.specs.Outside.{files_by}
 use Rattle.coeus.proofs.Outcomes.{ok_as, err_as}
 use Rattle.coeus.proofs.Searching.{found_text, not_found}
 use Rattle.coeus.proofs.local.find.Goals as goal
@@ -14,6 +14,6 @@ pub returns-clause-cause : goal.returns-clause-cause
 returns-clause-cause g c =
     err_as c.answer.result _ _ c.answer.ensures.cause
     (λ refusal cause. not_found (local_shown c.args.command.now)
-    (files_state (g.F.Files.held c.args.files.now) (g.F.Files.faults c.args.files.now) (g.F.Files.last_failed c.args.files.now))
-    (files_state (g.F.Files.held c.load.new.files) (g.F.Files.faults c.load.new.files) (g.F.Files.last_failed c.load.new.files))
+    (files_by g.F.Files.held g.F.Files.faults g.F.Files.last_failed c.args.files.now)
+    (files_by g.F.Files.held g.F.Files.faults g.F.Files.last_failed c.load.new.files)
     (g.R.Rng.stream c.args.rng.now) (g.R.Rng.stream c.answer.new.rng) c.in_ok-loaded.loaded refusal c.in_ok-loaded.ensures.ok cause)

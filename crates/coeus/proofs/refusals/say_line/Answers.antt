@@ -1,14 +1,14 @@
 use Rattle.std.proofs.Common.{ap, List, ℕ, [], ◌∷◌}
 use Rattle.std.specs.Prelude.{codes}
 use Rattle.coeus.specs.Refusals.{flat}
-use Rattle.coeus.specs.Outside.{sink_state}
+use Rattle.coeus.specs.Outside.{sink_by}
 use Rattle.coeus.proofs.Telling.{says_as}
 use Rattle.coeus.proofs.refusals.say_line.Goals as goal
 
 pub returns : goal.returns
 returns g c =
     says_as _ _
-    (sink_state (g.E.Sink.put_so_far c.args.err.now) (g.E.Sink.faults c.args.err.now))
-    (sink_state (g.E.Sink.put_so_far c.say.new.err) (g.E.Sink.faults c.say.new.err))
+    (sink_by g.E.Sink.put_so_far g.E.Sink.faults c.args.err.now)
+    (sink_by g.E.Sink.put_so_far g.E.Sink.faults c.say.new.err)
     (ap (λ (digits : List ℕ). flat (codes "corpus line " ∷ digits ∷ codes ": " ∷ c.args.what.now ∷ [])) c.format.ensures.text)
     c.say.ensures

@@ -1,6 +1,6 @@
 use Rattle.std.proofs.Common.{Ok, Err, ◌∙◌}
 use Rattle.coeus.specs.Commands.{search_shown}
-use Rattle.coeus.specs.Outside.{dial_state}
+use Rattle.coeus.specs.Outside.{dial_by}
 use Rattle.coeus.specs.Remote.{dialled}
 use Rattle.coeus.proofs.Remotes.{sought}
 use Rattle.coeus.proofs.remote.ask.Goals as goal
@@ -8,9 +8,9 @@ use Rattle.coeus.proofs.remote.ask.Goals as goal
 pub returns-in-Ok-search : goal.returns-in-Ok-search
 returns-in-Ok-search g c = λ port.
     let s = sought (search_shown c.args.command.now) port
-    (dial_state (g.D.Link.exchanges c.args.dial.now) (g.D.Link.faults c.args.dial.now) (g.D.Link.last_failed c.args.dial.now) (g.D.Dial.dials c.args.dial.now) (g.D.Dial.last_dial c.args.dial.now))
-    (dial_state (g.D.Link.exchanges c.dial.new.self) (g.D.Link.faults c.dial.new.self) (g.D.Link.last_failed c.dial.new.self) (g.D.Dial.dials c.dial.new.self) (g.D.Dial.last_dial c.dial.new.self))
-    (dial_state (g.D.Link.exchanges c.search.new.link) (g.D.Link.faults c.search.new.link) (g.D.Link.last_failed c.search.new.link) (g.D.Dial.dials c.search.new.link) (g.D.Dial.last_dial c.search.new.link))
+    (dial_by g.D.Link.exchanges g.D.Link.faults g.D.Link.last_failed g.D.Dial.dials g.D.Dial.last_dial c.args.dial.now)
+    (dial_by g.D.Link.exchanges g.D.Link.faults g.D.Link.last_failed g.D.Dial.dials g.D.Dial.last_dial c.dial.new.self)
+    (dial_by g.D.Link.exchanges g.D.Link.faults g.D.Link.last_failed g.D.Dial.dials g.D.Dial.last_dial c.search.new.link)
     (g.R.Rng.stream c.args.rng.now) (g.R.Rng.stream c.search.new.rng) (Ok c.in-Ok-search.found) c.as_str.result.now (c.as_str.ensures.value ∙ c.in-Ok.ensures)
     c.in-Ok-dial.ensures.dialled c.in-Ok-dial.ensures.told (c.in-Ok-dial.ensures.cause.same (λ e. absurd cc)) (g.met.D.Dial.exchange_leaves _ _ c.in-Ok-search.ensures.beside)
     c.in-Ok-search.ensures.told in
@@ -19,9 +19,9 @@ returns-in-Ok-search g c = λ port.
 pub returns : goal.returns
 returns g c = λ port.
     let s = sought (search_shown c.args.command.now) port
-    (dial_state (g.D.Link.exchanges c.args.dial.now) (g.D.Link.faults c.args.dial.now) (g.D.Link.last_failed c.args.dial.now) (g.D.Dial.dials c.args.dial.now) (g.D.Dial.last_dial c.args.dial.now))
-    (dial_state (g.D.Link.exchanges c.dial.new.self) (g.D.Link.faults c.dial.new.self) (g.D.Link.last_failed c.dial.new.self) (g.D.Dial.dials c.dial.new.self) (g.D.Dial.last_dial c.dial.new.self))
-    (dial_state (g.D.Link.exchanges c.search.new.link) (g.D.Link.faults c.search.new.link) (g.D.Link.last_failed c.search.new.link) (g.D.Dial.dials c.search.new.link) (g.D.Dial.last_dial c.search.new.link))
+    (dial_by g.D.Link.exchanges g.D.Link.faults g.D.Link.last_failed g.D.Dial.dials g.D.Dial.last_dial c.args.dial.now)
+    (dial_by g.D.Link.exchanges g.D.Link.faults g.D.Link.last_failed g.D.Dial.dials g.D.Dial.last_dial c.dial.new.self)
+    (dial_by g.D.Link.exchanges g.D.Link.faults g.D.Link.last_failed g.D.Dial.dials g.D.Dial.last_dial c.search.new.link)
     (g.R.Rng.stream c.args.rng.now) (g.R.Rng.stream c.search.new.rng) (Err c.in-Err.fault) c.as_str.result.now (c.as_str.ensures.value ∙ c.in-Ok.ensures)
     c.in-Ok-dial.ensures.dialled c.in-Ok-dial.ensures.told (c.in-Ok-dial.ensures.cause.same (λ e. absurd cc)) (g.met.D.Dial.exchange_leaves _ _ c.in-Err.ensures.beside)
     c.in-Err.ensures.told in

@@ -1,13 +1,13 @@
 use Rattle.std.proofs.Common.{ap, sym}
 use Rattle.std.specs.Prelude.{codes}
 use Rattle.coeus.specs.Refusals.{two_numbers, search_text}
-use Rattle.coeus.specs.Outside.{sink_state}
+use Rattle.coeus.specs.Outside.{sink_by}
 use Rattle.coeus.proofs.Telling.{says_as}
 use Rattle.coeus.proofs.search_faults.say_search.Goals as goal
 
 pub returns-in-BadRecord : goal.returns-in-BadRecord
 returns-in-BadRecord g c =
     says_as (two_numbers (codes "bad record ") c.in-BadRecord.document c.in-BadRecord.place) (search_text c.args.fault.now)
-    (sink_state (g.E.Sink.put_so_far c.args.err.now) (g.E.Sink.faults c.args.err.now))
-    (sink_state (g.E.Sink.put_so_far c.say_two-in-BadRecord.new.err) (g.E.Sink.faults c.say_two-in-BadRecord.new.err))
+    (sink_by g.E.Sink.put_so_far g.E.Sink.faults c.args.err.now)
+    (sink_by g.E.Sink.put_so_far g.E.Sink.faults c.say_two-in-BadRecord.new.err)
     (ap search_text (sym c.in-BadRecord.is)) c.say_two-in-BadRecord.ensures

@@ -1,12 +1,11 @@
 use Rattle.std.proofs.Common.{◌∙◌}
-use Rattle.coeus.specs.Outside.{port_state}
+use Rattle.coeus.specs.Outside.{port_by}
 use Rattle.coeus.proofs.Talks.{one_served}
 use Rattle.coeus.proofs.serving.serve_next.Goals as goal
 
 pub returns : goal.returns
 returns g c =
-    let mid = port_state (g.P.Port.tells c.accept.new.self) 0 (g.P.Source.left c.accept.new.self) (g.P.Sink.put_so_far c.accept.new.self)
-    (g.P.Source.faults c.accept.new.self) (g.P.Sink.faults c.accept.new.self) in
+    let mid = port_by g.P.Port.tells g.P.Port.faults g.P.Source.left g.P.Sink.put_so_far g.P.Source.faults g.P.Sink.faults c.accept.new.self in
     let s = c.serve_connection in
     one_served c.args.loaded.now s.result _ mid _ c.requires.listens c.in-Ok.ensures.tells c.in-Ok.ensures.takes c.in-Ok.ensures.puts
     (g.met.P.Port.both_leave_port _ _ s.ensures.beside) s.ensures.serves s.ensures.takes_later s.ensures.puts_later s.ensures.read_fault s.ensures.write_fault
