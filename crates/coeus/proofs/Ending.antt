@@ -32,7 +32,7 @@ use Rattle.coeus.specs.Words.{Spoken, SpokenPlain, SpokenImport, SpokenShape, Sp
 use Rattle.coeus.specs.declared.words.Command.{Command}
 use Rattle.coeus.specs.Commands.{command_shown}
 use Rattle.coeus.specs.Outside.{Outside, FilesState, SinkState, HasNoFault}
-use Rattle.coeus.specs.Access.{FileCause, Puts}
+use Rattle.coeus.specs.Access.{UnreadCause, Puts}
 use Rattle.coeus.specs.Refusals.{status_of, status_of_publishing, status_of_search, text_of, Says, Finishes}
 use Rattle.coeus.specs.Searches.{HasCorpus, IsToldCorpus, ReadCause, TextCause, CanBeSearched}
 use Rattle.coeus.specs.Imports.{CanBeImported}
@@ -61,7 +61,7 @@ import_unread i was is Memory cause out files uses = record { cause = cause; out
 import_unread i was is refusal cause out files uses = absurd cause
 
 -- a file that isn't read gives no corpus
-pub corpus_unread : (name : List ℕ) (was is : FilesState) (refusal : Refusal) → FileCause name was is refusal → ReadCause name was is refusal
+pub corpus_unread : (name : List ℕ) (was is : FilesState) (refusal : Refusal) → UnreadCause name was is refusal → ReadCause name was is refusal
 corpus_unread name was is (Corpus fault) cause = absurd cause
 corpus_unread name was is CorpusTooLong cause = absurd cause
 corpus_unread name was is refusal cause = cause
@@ -87,11 +87,11 @@ put_fails command was is text refusal puts begins keeps uses = absurd puts
 
 -- a command ends with the put of its text
 pub put_ends : (command : Spoken) (was is : Outside) (text : List ℕ) (result : Result (Unit {0}) Refusal) → Puts text was.out is.out result
-    → Prints command was is text → Begins command was is text → Passes command → Keeps command was.files.held is.files.held
-    → Uses command was.devices is.devices → Ended command was is result
+    → Prints command was is text → (Prints command was is text → Begins command was is text) → Passes command
+    → Keeps command was.files.held is.files.held → Uses command was.devices is.devices → Ended command was is result
 put_ends command was is text (Ok done) puts prints begins passes keeps uses =
     record { text = text; prints = prints; passes = passes; took = puts.0; keeps = keeps; uses = uses }
-put_ends command was is text (Err refusal) puts prints begins passes keeps uses = put_fails command was is text refusal puts begins keeps uses
+put_ends command was is text (Err refusal) puts prints begins passes keeps uses = put_fails command was is text refusal puts (begins prints) keeps uses
 
 -- ---- the status that is due
 

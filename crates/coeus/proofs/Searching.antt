@@ -34,7 +34,7 @@ use Rattle.coeus.specs.declared.refusals.Refusal.{Refusal}
 use Rattle.coeus.specs.declared.refusals.Refusal.TheVariants.{Library, LibraryTooLong, Test, Search as Unsearched, File, Output, Memory}
 use Rattle.coeus.specs.Words.{SpokenLocal, LocalWords, joined}
 use Rattle.coeus.specs.Outside.{Outside, FilesState, HasNoFault}
-use Rattle.coeus.specs.Access.{FileCause}
+use Rattle.coeus.specs.Access.{UnreadCause}
 use Rattle.coeus.specs.Refusals.{status_of, status_of_refused}
 use Rattle.coeus.specs.Imports.{HasImport}
 use Rattle.coeus.specs.Locals.{HasLibraryFile, CanBeServed, OpenCause, search_for, IsSearched, Searched, HasFound, FindCause, Finds, IsShown, LocalAnswer, LocalCause, LocalDue}
@@ -72,7 +72,7 @@ same_library held name documents settings library other f i =
     same_value (library_in f.bytes) library other f.read (imported held name f.bytes documents settings other f.file.stands i)
 
 -- a file that isn't read gives no library
-pub library_unread : (name : List ℕ) (was is : FilesState) (refusal : Refusal) → FileCause name was is refusal → OpenCause name was is refusal
+pub library_unread : (name : List ℕ) (was is : FilesState) (refusal : Refusal) → UnreadCause name was is refusal → OpenCause name was is refusal
 library_unread name was is (Library place) cause = absurd cause
 library_unread name was is LibraryTooLong cause = absurd cause
 library_unread name was is (Test fault) cause = absurd cause

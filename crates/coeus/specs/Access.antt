@@ -30,10 +30,10 @@ pub record HasReading {A : Type 0} (limit : ℕ) (held : Option Folder) (name : 
   pub read : read_as bytes ≡ value
 
 -- why a file isn't read; want of memory has no cause
-abbrev pub FileCause : List ℕ → FilesState → FilesState → Refusal → Type 0
-FileCause name was is (File Read) = Fails (record { kind = Read; name = name }) was is
-FileCause name was is Memory = Unit {0}
-FileCause name was is refusal = ⊥
+abbrev pub UnreadCause : List ℕ → FilesState → FilesState → Refusal → Type 0
+UnreadCause name was is (File Read) = Fails (record { kind = Read; name = name }) was is
+UnreadCause name was is Memory = Unit {0}
+UnreadCause name was is refusal = ⊥
 
 -- what is made of a file has this meaning, and a refusal this cause; the files hold what they held
 pub record Opens {A : Type 0} (means : Option Folder → List ℕ → A → Type 0)

@@ -27,7 +27,7 @@ use Rattle.co_client.specs.declared.fault.SearchFault.TheVariants as searching
 use Rattle.coeus.specs.declared.limits.TheConstants.{MAX_LIBRARY}
 use Rattle.coeus.specs.Words.{LocalWords, joined}
 use Rattle.coeus.specs.Outside.{FilesState}
-use Rattle.coeus.specs.Access.{HasLongFile, HasReading, FileCause}
+use Rattle.coeus.specs.Access.{HasLongFile, HasReading, UnreadCause}
 use Rattle.coeus.specs.Searches.{query_of}
 use Rattle.coeus.specs.Imports.{HasImport}
 use Rattle.coeus.specs.declared.refusals.Refusal.{Refusal}
@@ -59,7 +59,7 @@ abbrev pub OpenCause : List ℕ → FilesState → FilesState → Refusal → Ty
 OpenCause name was is (refusals.Test fault) = HasNoRoom was.held name fault
 OpenCause name was is (refusals.Library place) = HasWrongFile was.held name place
 OpenCause name was is refusals.LibraryTooLong = HasLongFile MAX_LIBRARY was.held name
-OpenCause name was is refusal = FileCause name was is refusal
+OpenCause name was is refusal = UnreadCause name was is refusal
 
 -- ---- the search
 

@@ -93,8 +93,8 @@ passing test [] = 0
 passing test (t ∷ ts) = (if test t then 1 else 0) + passing test ts
 
 -- the plain answers, one after another
-abbrev pub plain_of : List Trial → List ℕ
-plain_of ts = flat (map (λ t. t.plain) ts)
+abbrev pub plain_texts : List Trial → List ℕ
+plain_texts ts = flat (map (λ t. t.plain) ts)
 
 -- a line, and what stands behind it
 abbrev pub line_before : List ℕ → List ℕ → List ℕ
@@ -120,7 +120,7 @@ pub record RehearseAnswer (p : RehearseCommand) (was is : Stream) (text : List �
   pub are : AreTrials p library 1 (queries_of p.number) was is trials
   pub all : passing agrees trials + passing is_unplaced trials ≡ 8
   pub text_is : text ≡ rehearse_lines (passing agrees trials) (passing is_unplaced trials)
-      (plain_of trials)
+      (plain_texts trials)
 
 -- a search was refused, and not as its hits can't be placed; the queries before it were tried
 pub record StopsAt (p : RehearseCommand) (was is : Stream) (fault : SearchFault) : Type 0 where

@@ -14,7 +14,7 @@ use Rattle.co_library.specs.declared.publishing.PublishFault.TheVariants.{Settin
 use Rattle.coeus.specs.declared.limits.TheConstants.{MAX_CORPUS, DEFAULT_DEGREE, DEFAULT_SALT, DEFAULT_CHUNKS}
 use Rattle.coeus.specs.Words.{PlainWords, joined}
 use Rattle.coeus.specs.Outside.{FilesState}
-use Rattle.coeus.specs.Access.{HasLongFile, HasReading, FileCause}
+use Rattle.coeus.specs.Access.{HasLongFile, HasReading, UnreadCause}
 use Rattle.coeus.specs.declared.refusals.Refusal.{Refusal}
 use Rattle.coeus.specs.declared.refusals.Refusal.TheVariants.{Corpus, CorpusTooLong, Publish, Keywords, Memory}
 
@@ -32,7 +32,7 @@ HasFault held name fault = HasReading MAX_CORPUS held name corpus_of (Err fault)
 abbrev pub ReadCause : List ℕ → FilesState → FilesState → Refusal → Type 0
 ReadCause name was is (Corpus fault) = HasFault was.held name fault
 ReadCause name was is CorpusTooLong = HasLongFile MAX_CORPUS was.held name
-ReadCause name was is refusal = FileCause name was is refusal
+ReadCause name was is refusal = UnreadCause name was is refusal
 
 -- the file is told, and is a corpus
 pub record IsToldCorpus (held : Option Folder) (name : List ℕ)
@@ -82,15 +82,15 @@ pub record PlainAnswer (p : PlainWords) (held : Option Folder) (text : List ℕ)
   pub found : HasText p documents text
 
 -- of a corpus that is read there is no text
-pub record SearchCause (p : PlainWords) (held : Option Folder) (refusal : Refusal) : Type 0 where
+pub record PlainSearchCause (p : PlainWords) (held : Option Folder) (refusal : Refusal) : Type 0 where
   pub documents : List Document
   pub corpus : HasCorpus held p.corpus documents
   pub cause : TextCause p refusal
 
 -- when `plain` refuses, but by the output
 abbrev pub PlainCause : PlainWords → FilesState → FilesState → Refusal → Type 0
-PlainCause p was is (Publish fault) = SearchCause p was.held (Publish fault)
-PlainCause p was is (Keywords number) = SearchCause p was.held (Keywords number)
+PlainCause p was is (Publish fault) = PlainSearchCause p was.held (Publish fault)
+PlainCause p was is (Keywords number) = PlainSearchCause p was.held (Keywords number)
 PlainCause p was is refusal = ReadCause p.corpus was is refusal
 
 -- a plain search that can be answered: the file is told and a corpus, the settings are good, and

@@ -11,7 +11,7 @@ use Rattle.co_client.specs.declared.fault.SearchFault.TheVariants as searching
 use Rattle.coeus.specs.Words.{LocalWords}
 use Rattle.coeus.specs.Generator.{documents_of, queries_of}
 use Rattle.coeus.specs.Locals.{IsSearched}
-use Rattle.coeus.specs.Rehearsals.{rehearse_settings, IsMadeLibrary, words_asked, Trial, agrees, is_unplaced, is_printed_as, has_no_placement, IsTrial, AreTrials, passing, plain_of, RehearseCause}
+use Rattle.coeus.specs.Rehearsals.{rehearse_settings, IsMadeLibrary, words_asked, Trial, agrees, is_unplaced, is_printed_as, has_no_placement, IsTrial, AreTrials, passing, plain_texts, RehearseCause}
 use Rattle.coeus.specs.declared.words.RehearseCommand.{RehearseCommand}
 use Rattle.coeus.specs.declared.rehearse.Ready.{Ready}
 use Rattle.coeus.specs.declared.rehearse.Tally.{Tally}
@@ -37,7 +37,7 @@ abbrev pub tally_of : List Trial → Tally
 tally_of ts = record {
   agree = passing agrees ts;
   unplaced = passing is_unplaced ts;
-  plain = plain_of ts;
+  plain = plain_texts ts;
 }
 
 -- one trial more

@@ -1,6 +1,6 @@
 //! The way to a file and to the output, with the refusals that end there.
 ghost use Rattle.coeus.specs.Outside.{files_by, sink_by};
-ghost use Rattle.coeus.specs.Access.{HasAtMost, FileCause, Opens, Puts};
+ghost use Rattle.coeus.specs.Access.{HasAtMost, UnreadCause, Opens, Puts};
 
 use crate::refusals::Refusal;
 use co_link::{Bytes, FileFault, FileKind, Files, Sink};
@@ -8,7 +8,7 @@ use co_link::{Bytes, FileFault, FileKind, Files, Sink};
 /// The bytes of a file, or none where it has more than `limit`.
 pub fn read_file<F: Files>(name: &str, limit: u64, files: &mut F) -> Result<Option<Bytes>, Refusal>
     ensures { let at = files_by F.held F.faults F.last_failed in
-        Opens (HasAtMost limit) FileCause name.now (at files.old) (at files.new) result }
+        Opens (HasAtMost limit) UnreadCause name.now (at files.old) (at files.new) result }
 {
     match files.read(name, limit) {
         Ok(bytes) => Ok(Some(bytes)),

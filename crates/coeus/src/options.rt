@@ -12,6 +12,7 @@ ghost use Rattle.coeus.specs.Words.{are_for_plain, are_for_import, are_for_local
 ghost use Rattle.coeus.specs.Words.{are_for_serve, are_for_search, are_for_rehearse};
 ghost use Rattle.coeus.specs.Commands.{rest_shown};
 ghost use Rattle.coeus.specs.Next.{next_shown, words_left};
+ghost use Rattle.coeus.specs.declared.limits.TheConstants.{MAX_PICK, MAX_WORKERS, MAX_CONNECTIONS};
 
 use crate::limits::{
     DEFAULT_CONNECTIONS, DEFAULT_PICK, DEFAULT_PORT, DEFAULT_WORKERS, LONG_DIGITS, MAX_CONNECTIONS,
@@ -309,7 +310,7 @@ impl Options {
     /// The pick, 1 to 64, or else 1.
     pub fn pick(self) -> Option<u32>
         ensures value { result ≡ pick_of self }
-        ensures within { IfSome result (λ pick. (1 ≤ pick) × (pick ≤ 64)) }
+        ensures within { IfSome result (λ pick. (1 ≤ pick) × (pick ≤ MAX_PICK)) }
     {
         within(self.pick, DEFAULT_PICK, MAX_PICK)
     }
@@ -317,7 +318,8 @@ impl Options {
     /// The number of workers, 1 to 64, or else 4.
     pub fn workers(self) -> Option<u32>
         ensures value { result ≡ workers_of self }
-        ensures within { IfSome result (λ workers. (1 ≤ workers) × (workers ≤ 64)) }
+        ensures within { IfSome result (λ workers.
+            (1 ≤ workers) × (workers ≤ MAX_WORKERS)) }
     {
         within(self.workers, DEFAULT_WORKERS, MAX_WORKERS)
     }
@@ -332,7 +334,8 @@ impl Options {
     /// The number of connections, 1 to 1000000, or else 1.
     pub fn connections(self) -> Option<u32>
         ensures value { result ≡ connections_of self }
-        ensures within { IfSome result (λ number. (1 ≤ number) × (number ≤ 1000000)) }
+        ensures within { IfSome result (λ number.
+            (1 ≤ number) × (number ≤ MAX_CONNECTIONS)) }
     {
         within(self.connections, DEFAULT_CONNECTIONS, MAX_CONNECTIONS)
     }

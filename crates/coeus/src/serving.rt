@@ -7,6 +7,7 @@ ghost use Rattle.coeus.specs.Outside.{DialState, files_by, port_by, sink_by, dev
 ghost use Rattle.coeus.specs.Connections.{end_text, connection_line};
 ghost use Rattle.coeus.specs.Served.{ServesNext, ServesSome};
 ghost use Rattle.coeus.specs.Runs.{Ended as CommandEnded};
+ghost use Rattle.coeus.specs.declared.limits.TheConstants.{MAX_WORKERS};
 ghost use Rattle.rand_core.specs.Stream.{Stream};
 
 use crate::access::put_answer;
@@ -67,7 +68,7 @@ fn serve_next<T: Threads + Sync, P: Port>(
     port: &mut P,
 ) -> Result<Served, Refusal>
     requires listens { (P.tells port.old).listening ≡ true }
-    requires workers { (1 ≤ workers) × (workers ≤ 64) }
+    requires workers { (1 ≤ workers) × (workers ≤ MAX_WORKERS) }
     ensures { let at = port_by P.tells P.Port.faults P.left P.put_so_far
         P.Source.faults P.Sink.faults in
         ServesNext loaded.now (at port.old) (at port.new) result }
@@ -91,7 +92,7 @@ fn serve_all<T: Threads + Sync, P: Port, O: Sink>(
     out: &mut O,
 ) -> Result<(), Refusal>
     requires listens { (P.tells port.old).listening ≡ true }
-    requires workers { (1 ≤ workers) × (workers ≤ 64) }
+    requires workers { (1 ≤ workers) × (workers ≤ MAX_WORKERS) }
     ensures { let port_at = port_by P.tells P.Port.faults P.left P.put_so_far
         P.Source.faults P.Sink.faults in
         let out_at = sink_by O.put_so_far O.faults in

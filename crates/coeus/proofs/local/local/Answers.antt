@@ -9,5 +9,5 @@ pub returns : goal.returns
 returns g c = λ dial port.
     let printed = subst (λ (text : List ℕ). LocalAnswer (local_shown c.args.command.now) (g.F.Files.held c.args.files.now) (g.R.Rng.stream c.args.rng.now) (g.R.Rng.stream c.find.new.rng) text)
     (sym c.as_slice.ensures) c.in_ok-text.ensures.ok in
-    put_ends (SpokenLocal (local_shown c.args.command.now)) _ _ c.as_slice.result.now c.put_answer.result c.put_answer.ensures printed printed tt
+    put_ends (SpokenLocal (local_shown c.args.command.now)) _ _ c.as_slice.result.now c.put_answer.result c.put_answer.ensures printed (λ p. p) tt
     c.in_ok-text.ensures.files refl

@@ -3,7 +3,7 @@ use Rattle.coeus.proofs.Ending.{ran}
 use Rattle.coeus.proofs.program.run.Goals as goal
 
 pub returns-in-Plain : goal.returns-in-Plain
-returns-in-Plain g c = ran _ _ _ _ _ _ _ _ _ c.in-Plain.is c.read_command-command.ensures.value (c.plain.ensures _) c.finish-in-Plain.ensures
+returns-in-Plain g c = ran _ _ _ _ _ _ _ _ _ c.in-Plain.is c.read_command-command.ensures.value (c.plain.ensures _) c.finish.ensures
 
 pub returns-in-Import : goal.returns-in-Import
 returns-in-Import g c = ran _ _ _ _ _ _ _ _ _ c.in-Import.is c.read_command-command.ensures.value (c.import.ensures _) c.finish-in-Import.ensures

@@ -36,5 +36,5 @@ returns g c = λ devices.
     let printed = import_answer (import_shown c.args.command.now) _ _ _ c.in_ok-corpus.corpus c.in-Ok.library c.as_slice-2.result.now c.as_bytes.result.now
     c.in_ok-corpus.ensures.ok c.as_slice.ensures.corpus c.in-Ok.ensures.published c.read_documents.ensures.files c.in-Ok-write-2.ensures.bytes.put
     (c.as_slice-2.ensures ∙ c.in-Ok-write.ensures) (c.as_bytes.ensures.value ∙ c.in-Ok-numbers_line.ensures ∙ ap import_text c.shape.ensures.value) in
-    put_ends (SpokenImport (import_shown c.args.command.now)) _ _ c.as_bytes.result.now c.put_answer.result c.put_answer.ensures printed printed tt
+    put_ends (SpokenImport (import_shown c.args.command.now)) _ _ c.as_bytes.result.now c.put_answer.result c.put_answer.ensures printed (λ p. p) tt
     (λ name differs. others_kept _ _ _ name c.read_documents.ensures.files (c.write-2.ensures.bytes.others name differs)) refl

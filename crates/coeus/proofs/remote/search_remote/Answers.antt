@@ -18,5 +18,5 @@ returns-in_default g c = λ files port. record { cause = tt; out = refl; files =
 pub returns : goal.returns
 returns g c = λ files port.
     let a = c.in_ok-found.ensures port in
-    let printed = record { found = c.in_ok-found.found; sought = a.finds; text_is = c.as_slice.ensures ∙ c.in-Ok.ensures } in
-    put_ends (SpokenSearch (search_shown c.args.command.now)) _ _ c.as_slice.result.now c.put_answer.result c.put_answer.ensures printed printed tt refl (refl, a.dials)
+    put_ends (SpokenSearch (search_shown c.args.command.now)) _ _ c.as_slice.result.now c.put_answer.result c.put_answer.ensures
+    (record { found = c.in_ok-found.found; sought = a.finds; text_is = c.as_slice.ensures ∙ c.in-Ok.ensures }) (λ p. p) tt refl (refl, a.dials)
