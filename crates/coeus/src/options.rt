@@ -59,7 +59,9 @@ pub struct Options {
 /// Options, and the query words behind `--`, where there is that word.
 #[derive(Clone, Copy)]
 pub struct OptionsAndQuery<'a> {
+    /// The options.
     pub options: Options,
+    /// The words of the query.
     pub query: Option<&'a [String]>,
 }
 

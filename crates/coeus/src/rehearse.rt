@@ -1,11 +1,13 @@
 //! The command `rehearse`: eight searches over a library that is made up, and the plain answers to
 //! them, compared.
-ghost use Rattle.std.specs.Prelude.{◌≡◌, ◌≤◌, ◌<◌, ◌^◌, ◌+◌, length, IfOk, IfErr, map, string_bytes, slice_index_or, [], if◌then◌else◌};
+ghost use Rattle.std.specs.Prelude.{◌≡◌, ◌≤◌, ◌<◌, ◌^◌, ◌+◌, length, IfOk, IfErr, string_bytes};
+ghost use Rattle.std.specs.Prelude.{slice_index_or, [], if◌then◌else◌};
 ghost use Rattle.co_text.specs.Terms.{terms, distinct};
 ghost use Rattle.co_text.specs.Printed.{printed};
+ghost use Rattle.co_text.specs.declared.limits.TheConstants.{MAX_KEYWORDS};
 ghost use Rattle.co_tfidf.specs.Found.{found, IsIndex};
 ghost use Rattle.coeus.specs.Words.{SpokenRehearse, joined};
-ghost use Rattle.coeus.specs.Commands.{local_shown, IsWithinRanges, IsWithinRehearsals};
+ghost use Rattle.coeus.specs.Commands.{shown, local_shown, IsWithinRanges, IsWithinRehearsals};
 ghost use Rattle.coeus.specs.Outside.{FilesState, DialState, PortState, outside, devices, sink_by};
 ghost use Rattle.coeus.specs.Generator.{documents_of, queries_of};
 ghost use Rattle.coeus.specs.Rehearsals.{IsMadeLibrary, RehearseAnswer, RehearseCause};
@@ -13,6 +15,8 @@ ghost use Rattle.coeus.specs.Rehearsals.{rehearse_lines};
 ghost use Rattle.coeus.specs.Trials.{IsReady, ReadyCause, IsJudged, JudgeCause};
 ghost use Rattle.coeus.specs.Trials.{Tries, AreTried, StopCause};
 ghost use Rattle.coeus.specs.Runs.{Ended};
+ghost use Rattle.coeus.specs.declared.making.TheConstants.{QUERIES};
+ghost use Rattle.coeus.specs.declared.rehearse.TheConstants.{TERMS, HITS};
 
 use crate::access::put_answer;
 use crate::local::answer;
@@ -40,8 +44,11 @@ const HITS: u32 = 16;
 /// What is searched: the made documents, their index, and their library made ready for replies.
 #[derive(Drop)]
 pub struct Ready {
+    /// The documents, and the queries.
     pub made: Made,
+    /// The index of the documents.
     pub index: Index,
+    /// Their library.
     pub loaded: Loaded,
 }
 
@@ -114,10 +121,10 @@ fn plain_answer(
     query: &[String],
     pick: u32,
 ) -> Result<Bytes, AllocError>
-    requires index { IsIndex 256 corpus.now index.now }
-    requires few { length (distinct (terms (joined (map string_bytes query.now)))) ≤ 16 }
-    ensures { IfOk result (λ text. text
-        ≡ printed (found 256 corpus.now 16 (terms (joined (map string_bytes query.now))) pick)) }
+    requires index { IsIndex TERMS corpus.now index.now }
+    requires few { length (distinct (terms (joined (shown query)))) ≤ MAX_KEYWORDS }
+    ensures { IfOk result (λ text.
+        text ≡ printed (found TERMS corpus.now HITS (terms (joined (shown query))) pick)) }
 {
     let text = join(alloc, query)?;
     let query = all_terms(alloc, text.as_str())?;
@@ -174,7 +181,7 @@ fn try_query<T: Runs, R: Rng>(
     requires shared { T.is_shared }
     requires ranges { IsWithinRehearsals command.now }
     requires ready { IsReady command.now ready.now }
-    requires place { place < 8 }
+    requires place { place < QUERIES }
     requires agree { tally.old.agree ≤ place }
     requires unplaced { tally.old.unplaced ≤ place }
     ensures { Tries command.now ready.now.loaded (place + 1)
@@ -192,14 +199,10 @@ fn try_query<T: Runs, R: Rng>(
         workers: command.workers,
         query,
     };
-    let both = match judge(rt, alloc, &ready.loaded, &search, plain.as_slice(), rng) {
-        Ok(both) => both,
-        Err(refusal) => return Err(refusal),
+    let both = judge(rt, alloc, &ready.loaded, &search, plain.as_slice(), rng)?;
+    let Ok(()) = tally.plain.append(plain.as_slice()) else {
+        return Err(Refusal::Memory);
     };
-    match tally.plain.append(plain.as_slice()) {
-        Ok(()) => {}
-        Err(_) => return Err(Refusal::Memory),
-    }
     tally.agree += one_if(both.0);
     tally.unplaced += one_if(both.1);
     Ok(())
@@ -226,10 +229,7 @@ fn try_all<T: Runs, R: Rng>(
         plain: Bytes::new(alloc),
     };
     for place in 0..QUERIES {
-        match try_query(rt, alloc, ready, command, place, rng, &mut tally) {
-            Ok(()) => {}
-            Err(refusal) => return Err(refusal),
-        }
+        try_query(rt, alloc, ready, command, place, rng, &mut tally)?;
     }
     Ok(tally)
 }
@@ -261,23 +261,17 @@ fn rehearsal<T: Runs, R: Rng>(
     ensures cause { IfErr result (RehearseCause command.now
         (R.stream rng.old) (R.stream rng.new)) }
 {
-    let ready = match prepare(alloc, command) {
-        Ok(ready) => ready,
-        Err(refusal) => return Err(refusal),
-    };
-    let tally = match try_all(rt, alloc, &ready, command, rng) {
-        Ok(tally) => tally,
-        Err(refusal) => return Err(refusal),
-    };
+    let ready = prepare(alloc, command)?;
+    let tally = try_all(rt, alloc, &ready, command, rng)?;
     match lines(alloc, &tally) {
         Ok(text) => Ok(text),
         Err(_) => Err(Refusal::Memory),
     }
 }
 
-/// Makes up a library, answers eight queries by searches over links to its own sessions and by plain
-/// search, and puts on the output what they come to. It has nothing to do with files, a dial or a
-/// port.
+/// Makes up a library, answers eight queries by searches over links to its own sessions and by
+/// plain search, and puts on the output what they come to. It has nothing to do with files, a dial
+/// or a port.
 pub fn rehearse<T: Runs, R: Rng, O: Sink>(
     rt: &T,
     alloc: Global,

@@ -125,7 +125,8 @@ pub fn serve<T: Threads + Sync, F: Files, P: Port, O: Sink>(
         let port_at = port_by P.tells P.Port.faults P.left P.put_so_far
         P.Source.faults P.Sink.faults in
         let out_at = sink_by O.put_so_far O.faults in
-        (random : Stream) (dial : DialState) → CommandEnded (SpokenServe (serve_shown command.now))
+        (random : Stream) (dial : DialState) →
+        CommandEnded (SpokenServe (serve_shown command.now))
         (outside (files_at files.old) (devices random dial (port_at port.old)) (out_at out.old))
         (outside (files_at files.new) (devices random dial (port_at port.new)) (out_at out.new))
         result }

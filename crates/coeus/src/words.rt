@@ -94,12 +94,19 @@ pub struct RehearseCommand {
 /// What the words of the command line ask for.
 #[derive(Clone, Copy)]
 pub enum Command<'a> {
+    /// Plain search over a corpus.
     Plain(PlainCommand<'a>),
+    /// Publishing a corpus.
     Import(ImportCommand<'a>),
+    /// The noise bounds of published numbers.
     Shape(Shape),
+    /// A search over a library, with a session of its own.
     Local(LocalCommand<'a>),
+    /// A library on connections.
     Serve(ServeCommand<'a>),
+    /// A search over a dial.
     Search(SearchCommand<'a>),
+    /// Searches over a library that is made up.
     Rehearse(RehearseCommand),
     /// Nothing that is in the grammar.
     Wrong,
