@@ -1,16 +1,16 @@
 //! The program over devices in memory of which one call fails, and then the same run again with the
 //! same devices: how each run ends, and what stands after it.
+ghost use Rattle.std.specs.Prelude.{◌≡◌};
 ghost use Rattle.co_link.specs.Fresh.{IsFresh};
 
 use super::*;
-use crate::local::load;
-use crate::publish::import;
-use crate::words::ImportCommand;
-use co_library::Settings;
+use co_corpus::read_corpus;
+use co_library::{Settings, publish};
 use co_link::{
     Bytes, Dial, Exchange, FailNth, FailingCalls, Files, MemoryConnection, MemoryFiles, MemoryPort,
     MemorySink, MemorySource, Target,
 };
+use co_noise::{Shape, Tested, test};
 use co_server::{Loaded, LocalLink, Runs};
 use std::alloc::Global;
 use std::collections::BTreeMap;
@@ -45,8 +45,8 @@ enum Device {
     Err,
 }
 
-// How a run ends: its status, what stands on both outputs, and the lengths of the requests that were
-// made.
+// How a run ends: its status, what stands on both outputs, and the lengths of the requests that
+// were made.
 #[derive(Clone, Copy)]
 struct End<'a> {
     status: u8,
@@ -104,11 +104,17 @@ fn files(rt: &impl Abort, alloc: Global) -> BTreeMap<String, Bytes> {
     files
 }
 
-// The corpus, published.
-fn published(rt: &impl Abort, alloc: Global, degree: u32) -> MemoryFiles {
-    let none = FailingCalls::none(alloc);
-    let mut files = MemoryFiles::with_files(alloc, files(rt, alloc), none);
-    let mut out = sink(rt, alloc, FailingCalls::none(alloc));
+// A shape that passes the test.
+#[tactic(auto, unfolding(co_noise::specs::Bounds::test_of))]
+fn passed(rt: &impl Abort, shape: &Shape) -> Tested
+    ensures { result ≡ shape.now }
+{
+    test(shape).expect(rt, "a shape that passes")
+}
+
+// The bytes of the corpus's library, and the library made ready for replies.
+fn published(rt: &impl Abort, alloc: Global, degree: u32) -> (Bytes, Loaded) {
+    let corpus = read_corpus(alloc, C1).expect(rt, "a corpus");
     let settings = Settings {
         degree,
         terms: 16_384,
@@ -116,13 +122,11 @@ fn published(rt: &impl Abort, alloc: Global, degree: u32) -> MemoryFiles {
         salt: 0,
         chunks: 1,
     };
-    let command = ImportCommand {
-        corpus: "c1",
-        library: "lib",
-        settings,
-    };
-    assert!(rt; import(alloc, &command, &mut files, &mut out).is_ok());
-    files
+    let library = publish(alloc, &corpus, &settings).expect(rt, "a library");
+    let bytes = library.write(alloc).expect(rt, "memory");
+    let tested = passed(rt, library.shape());
+    let loaded = Loaded::new(alloc, library, tested).expect(rt, "memory");
+    (bytes, loaded)
 }
 
 fn sink(rt: &impl Abort, alloc: Global, calls: FailingCalls) -> MemorySink {
@@ -184,7 +188,8 @@ fn holds(files: &mut MemoryFiles, name: &str, bytes: &[u8]) -> bool {
     }
 }
 
-// Whether these are the exchanges of a search with requests of these lengths, from its first one on.
+// Whether these are the exchanges of a search with requests of these lengths, from its first one
+// on.
 fn are_asked(exchanges: &[Exchange], lengths: &[usize]) -> bool {
     let mut same = exchanges.len() == lengths.len();
     for ((exchange, target), length) in exchanges.iter().zip(TARGETS).zip(lengths) {
@@ -273,12 +278,8 @@ fn both_end<R: Runs, T: Threads + Sync + Abort>(
 
 // Whether both runs of a case end as it says.
 fn ends_twice<T: Threads + Sync + Abort>(rt: &T, alloc: Global, case: &Case<'_>) -> bool {
-    let mut published = published(rt, alloc, case.degree);
-    let library = published.read("lib", 65_536).expect(rt, "a library");
-    match load(alloc, "lib", &mut published) {
-        Ok(loaded) => both_end(rt, rt, alloc, case, &loaded, library.as_slice()),
-        Err(_) => false,
-    }
+    let (library, loaded) = published(rt, alloc, case.degree);
+    both_end(rt, rt, alloc, case, &loaded, library.as_slice())
 }
 
 // A run at degree 16 that has this status, leaves the output and says a line; and again, which
