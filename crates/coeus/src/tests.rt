@@ -17,11 +17,38 @@ use std::collections::BTreeMap;
 use std::process::Abort;
 use std::thread::Threads;
 
-const C1: &[u8] =
-    b"{\"title\":\"Sea\",\"text\":\"sea sea wind\"}\n{\"title\":\"Harbour\",\"text\":\"harbour wind\"}\n{\"title\":\"Tide\",\"text\":\"tide sea\"}\n{\"title\":\"Moor\",\"text\":\"moor\"}\n";
+const C1: &[u8] = b"{\"title\":\"Sea\",\"text\":\"sea sea wind\"}\n\
+    {\"title\":\"Harbour\",\"text\":\"harbour wind\"}\n\
+    {\"title\":\"Tide\",\"text\":\"tide sea\"}\n\
+    {\"title\":\"Moor\",\"text\":\"moor\"}\n";
 
 const FOUND: &[u8] =
     b"hits 3\n1 0 12 Sea\n2 1 4 Harbour\n3 2 4 Tide\nunknown 0\ndocument 0 12\nsea sea wind\n";
+
+const IMPORTED: &[u8] = b"documents 4 terms 5 rows 1 bins 1 chunks 1\n";
+
+const SERVED: &[u8] = b"connection 1 requests 1 closed\n\
+    connection 2 requests 1 closed\n";
+
+const ONE_MORE: &[u8] = b"connection 1 requests 1 closed\n\
+    connection 1 requests 1 closed\n\
+    connection 2 requests 1 closed\n";
+
+const UNREAD: &[u8] = b"connection 1 requests 0 read fault\n\
+    connection 2 requests 1 closed\n";
+
+const UNREAD_AND_SERVED: &[u8] = b"connection 1 requests 0 read fault\n\
+    connection 2 requests 1 closed\n\
+    connection 1 requests 1 closed\n\
+    connection 2 requests 1 closed\n";
+
+const UNWRITTEN: &[u8] = b"connection 1 requests 0 write fault\n\
+    connection 2 requests 1 closed\n";
+
+const UNWRITTEN_AND_SERVED: &[u8] = b"connection 1 requests 0 write fault\n\
+    connection 2 requests 1 closed\n\
+    connection 1 requests 1 closed\n\
+    connection 2 requests 1 closed\n";
 
 const GET: &[u8] = b"GET /public HTTP/1.1\r\nHost: archive\r\n\r\n";
 
@@ -312,103 +339,58 @@ fn answers_again<'a>(
     }
 }
 
+// The read of a file fails, the put of an answer, the write of a library, and the puts of a refusal.
 #[test]
-fn plain_again(rt: HostRuntime) {
-    let (alloc, text) = (rt.alloc(), "plain c1 -- sea wind");
-    let read = answers_again(text, Device::Files, &[0], 9, b"coeus: file c1\n", FOUND);
-    assert!(rt; ends_twice(&rt, alloc, &read));
-    let put = answers_again(text, Device::Out, &[0], 9, b"coeus: output\n", FOUND);
-    assert!(rt; ends_twice(&rt, alloc, &put));
+fn files_again(rt: HostRuntime) {
+    let (plain, local) = ("plain c1 -- sea wind", "local lib -- sea wind");
+    let (import, line) = ("import c1 other --degree 512", IMPORTED);
+    let mut refusal = answers_again("plain empty -- sea", Device::Err, &[0, 1, 2], 3, b"", b"");
+    refusal.ends[1].status = 3;
+    refusal.ends[1].err = b"coeus: corpus: no document\n";
+    let cases = [
+        answers_again(plain, Device::Files, &[0], 9, b"coeus: file c1\n", FOUND),
+        answers_again(plain, Device::Out, &[0], 9, b"coeus: output\n", FOUND),
+        answers_again(local, Device::Files, &[0], 9, b"coeus: file lib\n", FOUND),
+        answers_again(local, Device::Out, &[0], 9, b"coeus: output\n", FOUND),
+        answers_again(import, Device::Files, &[1], 9, b"coeus: file other\n", line),
+        refusal,
+    ];
+    for case in &cases {
+        assert!(rt; ends_twice(&rt, rt.alloc(), case));
+    }
 }
 
-#[test]
-fn local_again(rt: HostRuntime) {
-    let (alloc, text) = (rt.alloc(), "local lib -- sea wind");
-    let read = answers_again(text, Device::Files, &[0], 9, b"coeus: file lib\n", FOUND);
-    assert!(rt; ends_twice(&rt, alloc, &read));
-    let put = answers_again(text, Device::Out, &[0], 9, b"coeus: output\n", FOUND);
-    assert!(rt; ends_twice(&rt, alloc, &put));
-}
-
-#[test]
-fn import_again(rt: HostRuntime) {
-    let (alloc, text) = (rt.alloc(), "import c1 other --degree 512");
-    let line = b"documents 4 terms 5 rows 1 bins 1 chunks 1\n";
-    let write = answers_again(text, Device::Files, &[1], 9, b"coeus: file other\n", line);
-    assert!(rt; ends_twice(&rt, alloc, &write));
-}
-
-// The line of a refusal can't be put.
-#[test]
-fn refusal_again(rt: HostRuntime) {
-    let line = b"coeus: corpus: no document\n";
-    let mut case = answers_again("plain empty -- sea", Device::Err, &[0, 1, 2], 3, b"", b"");
-    case.ends[1].status = 3;
-    case.ends[1].err = line;
-    assert!(rt; ends_twice(&rt, rt.alloc(), &case));
-}
-
-const SEARCH: &str = "search localhost 8080 -- sea wind";
-
-// Each exchange fails once.
+// Each exchange of a search fails once, and the dial, of a search of the corpus at degree 512.
 #[test]
 fn search_again(rt: HostRuntime) {
+    let (text, line) = ("search localhost 8080 -- sea wind", b"coeus: link\n");
     let asked = [0, 10_752, 448, 10_752, 448];
     for number in 1..6u64 {
         let numbers = [number];
-        let mut case = answers_again(SEARCH, Device::Dial, &numbers, 7, b"coeus: link\n", FOUND);
+        let mut case = answers_again(text, Device::Dial, &numbers, 7, line, FOUND);
         case.ends[0].asked = &asked[..number as usize - 1];
         case.ends[1].asked = &asked;
         assert!(rt; ends_twice(&rt, rt.alloc(), &case));
     }
-}
-
-// The dial fails, of a search of the corpus at degree 512.
-#[test]
-fn dial_again(rt: HostRuntime) {
-    let mut case = answers_again(SEARCH, Device::Dial, &[0], 7, b"coeus: link\n", FOUND);
+    let mut case = answers_again(text, Device::Dial, &[0], 7, line, FOUND);
     case.degree = 512;
     case.ends[1].asked = &[0, 688_128, 14_336, 344_064, 14_336];
     assert!(rt; ends_twice(&rt, rt.alloc(), &case));
 }
 
-const SERVE: &str = "serve lib --connections 2";
-
-const SERVED: &[u8] = b"connection 1 requests 1 closed\nconnection 2 requests 1 closed\n";
-
-// The port doesn't listen.
+// Two connections are served, where the port doesn't listen at first, or doesn't accept the second,
+// or a take or a put of the first fails.
 #[test]
-fn listen_again(rt: HostRuntime) {
-    let case = answers_again(SERVE, Device::Port, &[0], 7, b"coeus: link\n", SERVED);
-    assert!(rt; ends_twice(&rt, rt.alloc(), &case));
-}
-
-// The port doesn't accept a second connection.
-#[test]
-fn accept_again(rt: HostRuntime) {
-    let twice =
-        b"connection 1 requests 1 closed\nconnection 1 requests 1 closed\nconnection 2 requests 1 closed\n";
-    let mut case = answers_again(SERVE, Device::Port, &[2], 7, b"coeus: link\n", twice);
-    case.ends[0].out = b"connection 1 requests 1 closed\n";
-    assert!(rt; ends_twice(&rt, rt.alloc(), &case));
-}
-
-// The first take of the first connection fails.
-#[test]
-fn take_again(rt: HostRuntime) {
-    let twice =
-        b"connection 1 requests 0 read fault\nconnection 2 requests 1 closed\nconnection 1 requests 1 closed\nconnection 2 requests 1 closed\n";
-    let mut case = answers_again(SERVE, Device::Takes, &[0], 0, b"", twice);
-    case.ends[0].out = b"connection 1 requests 0 read fault\nconnection 2 requests 1 closed\n";
-    assert!(rt; ends_twice(&rt, rt.alloc(), &case));
-}
-
-// The first put of the first connection fails.
-#[test]
-fn put_again(rt: HostRuntime) {
-    let twice =
-        b"connection 1 requests 0 write fault\nconnection 2 requests 1 closed\nconnection 1 requests 1 closed\nconnection 2 requests 1 closed\n";
-    let mut case = answers_again(SERVE, Device::Puts, &[0], 0, b"", twice);
-    case.ends[0].out = b"connection 1 requests 0 write fault\nconnection 2 requests 1 closed\n";
-    assert!(rt; ends_twice(&rt, rt.alloc(), &case));
+fn serve_again(rt: HostRuntime) {
+    let text = "serve lib --connections 2";
+    let listens = answers_again(text, Device::Port, &[0], 7, b"coeus: link\n", SERVED);
+    let mut accepts = answers_again(text, Device::Port, &[2], 7, b"coeus: link\n", ONE_MORE);
+    accepts.ends[0].out = b"connection 1 requests 1 closed\n";
+    let mut takes = answers_again(text, Device::Takes, &[0], 0, b"", UNREAD_AND_SERVED);
+    takes.ends[0].out = UNREAD;
+    let mut puts = answers_again(text, Device::Puts, &[0], 0, b"", UNWRITTEN_AND_SERVED);
+    puts.ends[0].out = UNWRITTEN;
+    for case in &[listens, accepts, takes, puts] {
+        assert!(rt; ends_twice(&rt, rt.alloc(), case));
+    }
 }
