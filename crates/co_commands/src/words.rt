@@ -2,7 +2,7 @@
 ghost use Rattle.std.specs.Prelude.{◌≡◌, ◌++◌, IfOk, IfSome, string_bytes, map, option_map};
 ghost use Rattle.co_commands.specs.Words.{plain_words, import_words, settings_of, shape_words};
 ghost use Rattle.co_commands.specs.Words.{local_words, serve_words, search_words};
-ghost use Rattle.co_commands.specs.Words.{rehearse_words, spoken, joined};
+ghost use Rattle.co_commands.specs.Words.{rehearse_words, or_wrong, spoken, joined};
 ghost use Rattle.co_commands.specs.Commands.{command_shown, plain_shown, import_shown, local_shown};
 ghost use Rattle.co_commands.specs.Commands.{serve_shown, search_shown, rest_shown};
 ghost use Rattle.co_commands.specs.Commands.{IsWithinRanges, IsWithinServing, IsWithinSearching};
@@ -113,52 +113,34 @@ pub enum Command<'a> {
 }
 
 /// Reads a command, the words behind it, and what they say.
-#[tactic(auto, unfolding(crate::specs::Words::spoken))]
 pub fn read_command(words: &[String]) -> Command<'_>
     ensures value { command_shown result ≡ spoken (map string_bytes words.now) }
     ensures ranges { AreWithinRanges result }
 {
+    match read_known(words) {
+        Some(command) => command,
+        None => Command::Wrong,
+    }
+}
+
+// Reads a command that is in the grammar.
+#[tactic(auto, unfolding(crate::specs::Words::spoken))]
+fn read_known(words: &[String]) -> Option<Command<'_>>
+    ensures value { or_wrong command_shown result ≡ spoken (map string_bytes words.now) }
+    ensures ranges { IfSome result AreWithinRanges }
+{
     let [command, words @ ..] = words else {
-        return Command::Wrong;
+        return None;
     };
-    let command = command.as_str();
-    if command == "plain" {
-        match read_plain(words) {
-            Some(command) => Command::Plain(command),
-            None => Command::Wrong,
-        }
-    } else if command == "import" {
-        match read_import(words) {
-            Some(command) => Command::Import(command),
-            None => Command::Wrong,
-        }
-    } else if command == "shape" {
-        match read_shape(words) {
-            Some(shape) => Command::Shape(shape),
-            None => Command::Wrong,
-        }
-    } else if command == "local" {
-        match read_local(words) {
-            Some(command) => Command::Local(command),
-            None => Command::Wrong,
-        }
-    } else if command == "serve" {
-        match read_serve(words) {
-            Some(command) => Command::Serve(command),
-            None => Command::Wrong,
-        }
-    } else if command == "search" {
-        match read_search(words) {
-            Some(command) => Command::Search(command),
-            None => Command::Wrong,
-        }
-    } else if command == "rehearse" {
-        match read_rehearse(words) {
-            Some(command) => Command::Rehearse(command),
-            None => Command::Wrong,
-        }
-    } else {
-        Command::Wrong
+    match command.as_str() {
+        "plain" => Some(Command::Plain(read_plain(words)?)),
+        "import" => Some(Command::Import(read_import(words)?)),
+        "shape" => Some(Command::Shape(read_shape(words)?)),
+        "local" => Some(Command::Local(read_local(words)?)),
+        "serve" => Some(Command::Serve(read_serve(words)?)),
+        "search" => Some(Command::Search(read_search(words)?)),
+        "rehearse" => Some(Command::Rehearse(read_rehearse(words)?)),
+        _ => None,
     }
 }
 

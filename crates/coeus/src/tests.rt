@@ -339,7 +339,7 @@ fn answers_again<'a>(
     }
 }
 
-// The read of a file fails, the put of an answer, the write of a library, and the puts of a refusal.
+// The read of a file fails, the put of an answer, the write of a library, the puts of a refusal.
 #[test]
 fn files_again(rt: HostRuntime) {
     let (plain, local) = ("plain c1 -- sea wind", "local lib -- sea wind");
@@ -360,19 +360,25 @@ fn files_again(rt: HostRuntime) {
     }
 }
 
-// Each exchange of a search fails once, and the dial, of a search of the corpus at degree 512.
+const SEARCH: &str = "search localhost 8080 -- sea wind";
+
+// Each exchange of a search fails once.
 #[test]
 fn search_again(rt: HostRuntime) {
-    let (text, line) = ("search localhost 8080 -- sea wind", b"coeus: link\n");
     let asked = [0, 10_752, 448, 10_752, 448];
     for number in 1..6u64 {
         let numbers = [number];
-        let mut case = answers_again(text, Device::Dial, &numbers, 7, line, FOUND);
+        let mut case = answers_again(SEARCH, Device::Dial, &numbers, 7, b"coeus: link\n", FOUND);
         case.ends[0].asked = &asked[..number as usize - 1];
         case.ends[1].asked = &asked;
         assert!(rt; ends_twice(&rt, rt.alloc(), &case));
     }
-    let mut case = answers_again(text, Device::Dial, &[0], 7, line, FOUND);
+}
+
+// The dial fails, of a search of the corpus at degree 512.
+#[test]
+fn dial_again(rt: HostRuntime) {
+    let mut case = answers_again(SEARCH, Device::Dial, &[0], 7, b"coeus: link\n", FOUND);
     case.degree = 512;
     case.ends[1].asked = &[0, 688_128, 14_336, 344_064, 14_336];
     assert!(rt; ends_twice(&rt, rt.alloc(), &case));
