@@ -119,12 +119,12 @@ fn digit_values(room: &mut DigitRoom, tables: &Tables, index: u32)
     requires middle_degree { spectrum_degree room.old.middle ≡ tables.now }
     requires high_degree { spectrum_degree room.old.high ≡ tables.now }
     ensures same { room.new.digits ≡ room.old.digits }
-    ensures low { IsSpectrumOf tables.now (coefficients (digit_polynomial index room.old.digits))
-        room.new.low }
-    ensures middle { IsSpectrumOf tables.now (coefficients (digit_polynomial (index + 1) room.old.digits))
-        room.new.middle }
-    ensures high { IsSpectrumOf tables.now (coefficients (digit_polynomial (index + 2) room.old.digits))
-        room.new.high }
+    ensures low { IsSpectrumOf tables.now
+        (coefficients (digit_polynomial index room.old.digits)) room.new.low }
+    ensures middle { IsSpectrumOf tables.now
+        (coefficients (digit_polynomial (index + 1) room.old.digits)) room.new.middle }
+    ensures high { IsSpectrumOf tables.now
+        (coefficients (digit_polynomial (index + 2) room.old.digits)) room.new.high }
 {
     room.digits.to_spectrum(tables, index, &mut room.low);
     room.digits.to_spectrum(tables, index + 1, &mut room.middle);
