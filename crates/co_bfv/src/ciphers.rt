@@ -5,7 +5,7 @@ ghost use Rattle.co_math.specs.Parameters.{plain_half};
 ghost use Rattle.co_math.specs.Polynomials.{IsWrapped, plus, minus, product};
 ghost use Rattle.co_ring.specs.Polynomials.{degree_of};
 ghost use Rattle.co_rns.specs.Residue_pairs.{centred_coefficients};
-ghost use Rattle.co_bfv.specs.Ciphertexts.{IsCiphertext, MeansWithin, ciphertext_degree};
+ghost use Rattle.co_bfv.specs.Ciphertexts.{Ciphertext, IsCiphertext, MeansWithin, ciphertext_degree};
 ghost use Rattle.co_bfv.specs.Ciphertexts.{zero_ciphertext, plain_product};
 ghost use Rattle.co_bfv.specs.Ciphertexts.{ciphertext_sum, ciphertext_difference};
 
@@ -22,8 +22,6 @@ pub struct Cipher {
 }
 
 impl Model for Cipher {
-    ghost use Rattle.co_bfv.specs.Ciphertexts.{Ciphertext, IsCiphertext};
-
     ghost Value = { Ciphertext };
 
     ghost view = { λ c. record { c0 = c.c0; c1 = c.c1 } };

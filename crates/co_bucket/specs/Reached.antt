@@ -1,8 +1,9 @@
 -- What a search from an item without a bucket has reached: items, each with an assignment of all
 -- the others, and the buckets that the items but the first had at the start.
-use Rattle.std.specs.Prelude.{◌≡◌, ◌≢◌, ◌+◌, ◌<◌, ◌≤◌, ◌⊎◌, ℕ, List, [], length, slice_index, slice_index_or}
+use Rattle.std.specs.Prelude.{◌≡◌, ◌≢◌, ◌+◌, ◌<◌, ◌≤◌, ◌⊎◌, ℕ, List, [], Option, length, slice_index, slice_index_or, MatchOption}
 use Rattle.std.specs.List.{Contains}
 use Rattle.co_bucket.specs.declared.TheConstants.{MOST_ITEMS}
+use Rattle.co_bucket.specs.declared.finding.Reached.{Reached}
 use Rattle.co_bucket.specs.Placement.{IsCandidate, IsAssignmentBut}
 
 -- the state of a search from `hole`, where `choices` leave it alone without a bucket; near: in each
@@ -33,6 +34,24 @@ pub record IsKept (items buckets items' buckets' : List ℕ) : Type 0 where
   pub more : length items ≤ length items'
   pub same : (j : ℕ) → j < length items → slice_index items' j ≡ slice_index items j
   pub still : (b : ℕ) → Contains buckets b → Contains buckets' b
+
+-- the same of what the code keeps
+abbrev pub AreReached : List (List ℕ) → ℕ → ℕ → List ℕ → Reached → Type 0
+AreReached cs n hole choices r =
+    IsReached cs n hole choices r.items.items r.buckets.items r.shifted.items
+
+abbrev pub AreKept : Reached → Reached → Type 0
+AreKept before now =
+    IsKept before.items.items before.buckets.items now.items.items now.buckets.items
+
+-- what a step finds: a bucket for each of the items, or that the search goes on
+abbrev pub IsStep : List (List ℕ) → ℕ → ℕ → List ℕ → Reached → Option (List ℕ) → Type 0
+IsStep cs n hole choices now found =
+    MatchOption found (AreReached cs n hole choices now) (λ bs. IsAssignmentBut cs n n bs)
+
+-- a fact of each step that doesn't place all
+abbrev pub IfUnplaced : Type 0 → Option (List ℕ) → Type 0
+IfUnplaced Fact found = MatchOption found Fact (λ bs. Unit {0})
 
 -- each candidate of the item at j is reached
 abbrev pub IsClosed : List (List ℕ) → List ℕ → List ℕ → ℕ → Type 0

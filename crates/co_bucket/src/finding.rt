@@ -6,7 +6,7 @@
 ghost use Rattle.std.specs.Prelude.{◌≡◌, ◌≢◌, ◌+◌, ◌<◌, ◌≤◌, ℕ, List, [], length, slice_index, slice_index_or, IfOk, IfSome, MatchOption};
 ghost use Rattle.std.specs.List.{Contains};
 ghost use Rattle.co_bucket.specs.Placement.{IsCandidate, IsAssignmentBut};
-ghost use Rattle.co_bucket.specs.Reached.{IsReached, IsKept, IsClosed, IsStuck};
+ghost use Rattle.co_bucket.specs.Reached.{AreReached, AreKept, IsStep, IfUnplaced, IsClosed};
 ghost use Rattle.co_bucket.specs.Found.{IsFound};
 
 use crate::MOST_ITEMS;
@@ -52,19 +52,12 @@ fn reach(
     bucket: u32,
 ) -> Result<Option<Choices>, AllocError>
     requires count { count ≤ MOST_ITEMS }
-    requires reached { IsReached candidates.now count hole choices.now reached.old.items.items
-        reached.old.buckets.items reached.old.shifted.items }
+    requires reached { AreReached candidates.now count hole choices.now reached.old }
     requires at { at < length reached.old.items.items }
     requires bucket { IsCandidate candidates.now (slice_index reached.old.items.items at) bucket }
-    ensures placed { IfOk result (λ found.
-        MatchOption found (IsReached candidates.now count hole choices.now reached.new.items.items
-        reached.new.buckets.items reached.new.shifted.items) (λ bs.
-        IsAssignmentBut candidates.now count count bs)) }
-    ensures kept { IfOk result (λ found. MatchOption found
-        (IsKept reached.old.items.items reached.old.buckets.items reached.new.items.items
-        reached.new.buckets.items) (λ bs. Unit {0})) }
-    ensures closed { IfOk result (λ found.
-        MatchOption found (Contains reached.new.buckets.items bucket) (λ bs. Unit {0})) }
+    ensures placed { IfOk result (IsStep candidates.now count hole choices.now reached.new) }
+    ensures kept { IfOk result (IfUnplaced (AreKept reached.old reached.new)) }
+    ensures closed { IfOk result (IfUnplaced (Contains reached.new.buckets.items bucket)) }
 {
     if reached.buckets.contains(&bucket) {
         return Ok(None);
@@ -91,19 +84,12 @@ fn explore(
 ) -> Result<Option<Choices>, AllocError>
     requires count { count ≤ MOST_ITEMS }
     requires within { count ≤ length candidates.now }
-    requires reached { IsReached candidates.now count hole choices.now reached.old.items.items
-        reached.old.buckets.items reached.old.shifted.items }
+    requires reached { AreReached candidates.now count hole choices.now reached.old }
     requires at { at < length reached.old.items.items }
-    ensures placed { IfOk result (λ found.
-        MatchOption found (IsReached candidates.now count hole choices.now reached.new.items.items
-        reached.new.buckets.items reached.new.shifted.items) (λ bs.
-        IsAssignmentBut candidates.now count count bs)) }
-    ensures kept { IfOk result (λ found. MatchOption found
-        (IsKept reached.old.items.items reached.old.buckets.items reached.new.items.items
-        reached.new.buckets.items) (λ bs. Unit {0})) }
-    ensures closed { IfOk result (λ found.
-        MatchOption found (IsClosed candidates.now reached.new.items.items reached.new.buckets.items
-        at) (λ bs. Unit {0})) }
+    ensures placed { IfOk result (IsStep candidates.now count hole choices.now reached.new) }
+    ensures kept { IfOk result (IfUnplaced (AreKept reached.old reached.new)) }
+    ensures closed { IfOk result (IfUnplaced
+        (IsClosed candidates.now reached.new.items.items reached.new.buckets.items at)) }
 {
     let row = candidates[reached.items[at] as usize];
     for bucket in row {

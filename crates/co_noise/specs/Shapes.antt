@@ -5,6 +5,19 @@ pub use Rattle.co_math.specs.Degrees.{IsDegree, is_degree}
 pub use Rattle.co_math.specs.Logarithms.{log2_up}
 use Rattle.co_noise.specs.Limits.{most_documents, most_terms, most_hits, most_rows, most_bins, most_chunks, most_bin}
 
+-- ---- ranges of one number
+
+-- a number from low to high
+abbrev pub is_within : ℕ → ℕ → ℕ → Bool
+is_within low high n = nat_le low n && nat_le n high
+
+-- a chunk is the payload of one polynomial, 2 * degree bytes, and a bin has at most so many bytes
+abbrev pub is_chunk_count : ℕ → ℕ → Bool
+is_chunk_count degree chunks =
+    is_within 1 most_chunks chunks && nat_le (chunks * (2 * degree)) most_bin
+
+-- ---- the published numbers
+
 -- the eight published numbers, in the order of the published bytes
 pub record Numbers : Type 0 where
   pub degree : ℕ
@@ -29,17 +42,6 @@ numbers degree documents terms hits salt rows bins chunks =
       bins = bins;
       chunks = chunks;
     }
-
--- ---- ranges
-
--- a number from low to high
-abbrev pub is_within : ℕ → ℕ → ℕ → Bool
-is_within low high n = nat_le low n && nat_le n high
-
--- a chunk is the payload of one polynomial, 2 * degree bytes, and a bin has at most so many bytes
-abbrev pub is_chunk_count : ℕ → ℕ → Bool
-is_chunk_count degree chunks =
-    is_within 1 most_chunks chunks && nat_le (chunks * (2 * degree)) most_bin
 
 -- each number is in its range
 abbrev pub are_in_range : Numbers → Bool

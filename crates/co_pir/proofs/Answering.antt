@@ -20,7 +20,7 @@ use Rattle.co_switch.proofs.Rising.{raised-zero, raised-up}
 use Rattle.co_crew.specs.Crew.{IsEach}
 use Rattle.co_crew.specs.Sums.{units_total, AreAdded}
 use Rattle.co_crew.proofs.Unit_sums.{units-none, units-snoc, units-append, units-each}
-use Rattle.co_spectra.specs.Sums.{CipherSums, IsCipherSumOf, four_added}
+use Rattle.co_spectra.specs.Sums.{CipherSums, IsCipherSumOf, three_added}
 use Rattle.co_pir.specs.Tables.{Table, payload_at}
 use Rattle.co_pir.specs.Replies.{chunk_reply, table_reply}
 use Rattle.co_spectra.specs.Values.{CipherValues}
@@ -102,22 +102,20 @@ module _ (t : Table) (cs : List Ciphertext) (chunk piece : ℕ) where
       → IsCipherSumOf (piece_sum t cs chunk piece (count + 1)) new
   one_gathered count new h = subst (λ (c : Ciphertext). IsCipherSumOf c new) (next_sum count (piece * 64 + count) (count + 1) refl refl) h
 
-  -- four rows in one pass
-  pub four_gathered : (count row : ℕ) (new : CipherSums) → row ≡ piece * 64 + count
-      → IsCipherSumOf (four_added (piece_sum t cs chunk piece count) (ciphertext_at cs row) (ciphertext_at cs (row + 1)) (ciphertext_at cs (row + 2)) (ciphertext_at cs (row + 3))
-      (payload_at t row chunk) (payload_at t (row + 1) chunk) (payload_at t (row + 2) chunk) (payload_at t (row + 3) chunk)) new
-      → IsCipherSumOf (piece_sum t cs chunk piece (count + 4)) new
-  four_gathered count row new e h =
+  -- three rows in one pass
+  pub three_gathered : (count row : ℕ) (new : CipherSums) → row ≡ piece * 64 + count
+      → IsCipherSumOf (three_added (piece_sum t cs chunk piece count) (ciphertext_at cs row) (ciphertext_at cs (row + 1)) (ciphertext_at cs (row + 2))
+      (payload_at t row chunk) (payload_at t (row + 1) chunk) (payload_at t (row + 2) chunk)) new
+      → IsCipherSumOf (piece_sum t cs chunk piece (count + 3)) new
+  three_gathered count row new e h =
       let term : ℕ → Ciphertext = λ (k : ℕ). plain_product (ciphertext_at cs k) (payload_at t k chunk) in
       let sum : ℕ → Ciphertext = piece_sum t cs chunk piece in
       let one : ciphertext_sum (sum count) (term row) ≡ sum (count + 1) = next_sum count row (count + 1) e refl in
       let two : ciphertext_sum (sum (count + 1)) (term (row + 1)) ≡ sum (count + 2) = next_sum (count + 1) (row + 1) (count + 2) (omega (arith, e)) (omega arith) in
       let three : ciphertext_sum (sum (count + 2)) (term (row + 2)) ≡ sum (count + 3) = next_sum (count + 2) (row + 2) (count + 3) (omega (arith, e)) (omega arith) in
-      let four : ciphertext_sum (sum (count + 3)) (term (row + 3)) ≡ sum (count + 4) = next_sum (count + 3) (row + 3) (count + 4) (omega (arith, e)) (omega arith) in
       subst (λ (c : Ciphertext). IsCipherSumOf c new)
-      (ap (λ c. ciphertext_sum (ciphertext_sum (ciphertext_sum c (term (row + 1))) (term (row + 2))) (term (row + 3))) one
-      ∙ ap (λ c. ciphertext_sum (ciphertext_sum c (term (row + 2))) (term (row + 3))) two
-      ∙ ap (λ c. ciphertext_sum c (term (row + 3))) three ∙ four) h
+      (ap (λ c. ciphertext_sum (ciphertext_sum c (term (row + 1))) (term (row + 2))) one
+      ∙ ap (λ c. ciphertext_sum c (term (row + 2))) two ∙ three) h
 
 -- a unit more
 pub unit_added : (t : Table) (cs : List Ciphertext) (us : List ℕ) (unit : ℕ) (before after : List Ciphertext) → IsDegree t.degree → AreUnitSums t cs us before → AddsUnit t cs unit before after → AreUnitSums t cs (us ++ unit ∷ []) after

@@ -1,5 +1,5 @@
 -- Sums of products in the order of the leaves, and in the order of k.
-use Rattle.std.proofs.Common.{◌≡◌, ℕ, ◌+◌, ◌*◌, ◌%◌, ◌<◌, ◌≤◌, ◌^◌, List, [], ◌∷◌, map, length, get_or, replicate, arith, refl, sym, ap, subst, ◌∙◌, ⊎_elim, ℤ, pos, negsuc, ◌+ℤ◌, ◌*ℤ◌}
+use Rattle.std.proofs.Common.{◌≡◌, ℕ, ◌+◌, ◌*◌, ◌%◌, ◌<◌, ◌≤◌, ◌^◌, List, [], ◌∷◌, ◌++◌, map, length, take, drop, get_or, replicate, arith, refl, sym, ap, subst, ◌∙◌, ⊎_elim, ℤ, pos, negsuc, ◌+ℤ◌, ◌*ℤ◌}
 use Rattle.std.specs.List.{range_with_len}
 use Rattle.std.proofs.lemmas.List.FromFn.{length-map-range_with_len, get_or-map-range_with_len}
 use Rattle.std.proofs.lemmas.List.{length-replicate, get_or-replicate, get_or_past}
@@ -19,15 +19,9 @@ use Rattle.co_transform.proofs.Reversals.{place-lt}
 use Rattle.co_ring.specs.declared.moduli.Modulus.{Modulus}
 use Rattle.co_ring.specs.Moduli.{value_of}
 use Rattle.co_ring.specs.Spectra.{in_order, AreLeaves, AreValues}
-use Rattle.co_ring.specs.Product_sums.{AreSumLeaves, AreSumsOf, AreSumsWith, AreSumsWithAll, AreReduced, AreZeros, most_products}
-use Rattle.co_ring.proofs.Keeping.{value-positive}
+use Rattle.co_ring.specs.Product_sums.{Sums, AreSumLeaves, AreSumsOf, AreSumsWith, AreSumsWithAll, AreReduced, AreZeros, most_products}
+use Rattle.co_ring.proofs.Keeping.{value-positive, written_back}
 use Rattle.co_ring.proofs.Orderings.{in_order-length, in_order-get, view_length, value-zero, odd_minus, values_add}
-
-pub gathered_in_order : (l n : ℕ) (old a b new : List ℕ) → n ≡ 2 ^ l → Gathered old a b n new → (k : ℕ) → k < 2 ^ l
-    → get_or (in_order l new) k 0 ≡ get_or (in_order l old) k 0 + get_or (in_order l a) k 0 * get_or (in_order l b) k 0
-gathered_in_order l n old a b new size g k u =
-    in_order-get l k new u ∙ g.done (place l k) (omega (arith, place-lt l k, size))
-    ∙ (λ i. sym (in_order-get l k old u) i + sym (in_order-get l k a u) i * sym (in_order-get l k b u) i)
 
 pub reduced_in_order : (l m v : ℕ) (sums ys : List ℕ) → m ≡ v → length sums ≡ 2 ^ l → HaveResidues m sums ys → AreReduced v (in_order l sums) (in_order l ys)
 reduced_in_order l m v sums ys e len h = record {
@@ -106,23 +100,50 @@ gathered_all_in_order l xs old ys sums pairs views own size same views_are g =
           ∙ ap (λ (zs : List ℕ). get_or zs k 0 + products_at views k) own;
     }
 
--- the leaves of a spectrum are as many as those of a sum, and below the modulus
-pub leaves_fit : (l : ℕ) (xs old sums values leaves : List ℕ) → in_order l xs ≡ sums → length xs ≡ 2 ^ l → old ≡ xs → length values ≡ length sums → length leaves ≡ length values → length leaves ≡ length old
-leaves_fit l xs old sums values leaves own size same one e = e ∙ one ∙ view_length l xs sums own ∙ sym size ∙ sym (ap length same)
+-- a sum with its leaves as a slice, and the number of its modulus
+pub record IsHeld (s : Sums) (modulus : Modulus) (l count m n : ℕ) (xs old : List ℕ) : Type 0 where
+  pub kept : AreSumLeaves modulus l count xs
+  pub view : s ≡ record { modulus = modulus; count = count; values = in_order l xs }
+  pub value : m ≡ value_of modulus
+  pub same : old ≡ xs
+  pub len : length old ≡ n
 
-pub leaves_below : (m : ℕ) (own view its : Modulus) (leaves : List ℕ) → m ≡ value_of own → own ≡ view → its ≡ view → AreWithin (value_of its) leaves → AreWithin m leaves
-leaves_below m own view its leaves e o i h = subst (λ (k : ℕ). AreWithin k leaves) (ap value_of (i ∙ sym o) ∙ sym e) h
+pub held : {s : Sums} {modulus : Modulus} {l count m n : ℕ} {xs old : List ℕ} → AreSumLeaves modulus l count xs → record { modulus = modulus; count = count; values = in_order l xs } ≡ s → m ≡ value_of modulus → old ≡ xs → length old ≡ n
+    → IsHeld s modulus l count m n xs old
+held kept view value same len = record { kept = kept; view = sym view; value = value; same = same; len = len }
 
--- the leaves of a sum with more products
-pub more_leaves : (modulus : Modulus) (l count more m : ℕ) (xs old ys : List ℕ) → AreSumLeaves modulus l count xs → m ≡ value_of modulus → old ≡ xs → length ys ≡ length old → count + more ≤ most_products
-    → AreWithin ((count + more) * (m * m)) ys → AreSumLeaves modulus l (count + more) ys
-more_leaves modulus l count more m xs old ys h e same len few w = record {
-  least = h.least;
-  most = h.most;
-  len = len ∙ ap length same ∙ h.len;
-  few = few;
-  within = subst (λ (k : ℕ). AreWithin ((count + more) * (k * k)) ys) e w;
-}
+module _ {s : Sums} {modulus : Modulus} {l count m n : ℕ} {xs old : List ℕ} (h : IsHeld s modulus l count m n xs old) where
+  own : in_order l xs ≡ s.values
+  own = sym (ap (λ (z : Sums). z.values) h.view)
+
+  pub held_size : length s.values ≡ 2 ^ l
+  held_size = view_length l xs s.values own
+
+  -- the leaves of a spectrum are as many as those of the sum, and below the modulus
+  pub leaves_fit : (values leaves : List ℕ) → length values ≡ length s.values → length leaves ≡ length values → length leaves ≡ length old
+  leaves_fit values leaves one e = e ∙ one ∙ held_size ∙ sym h.kept.len ∙ sym (ap length h.same)
+
+  pub leaves_below : (its : Modulus) (leaves : List ℕ) → its ≡ s.modulus → AreWithin (value_of its) leaves → AreWithin m leaves
+  leaves_below its leaves e w = subst (λ (k : ℕ). AreWithin k leaves) (ap value_of (e ∙ ap (λ (z : Sums). z.modulus) h.view) ∙ sym h.value) w
+
+  -- how large the leaves of the sum are, before and after some products more
+  pub leaves_within : AreWithin (count * (m * m)) old
+  leaves_within = subst (AreWithin (count * (m * m))) (sym h.same) (subst (λ (k : ℕ). AreWithin (count * (k * k)) xs) (sym h.value) h.kept.within)
+
+  pub written_leaves : (more : ℕ) (ys : List ℕ) → length ys ≡ length old → s.count + more ≤ most_products → AreWithin ((count + more) * (m * m)) ys → AreSumLeaves modulus l (count + more) (take n (ys ++ drop (length ys) xs))
+  written_leaves more ys len few w = subst (AreSumLeaves modulus l (count + more)) (sym (written_back n xs ys (len ∙ h.len))) (record {
+    least = h.kept.least;
+    most = h.kept.most;
+    len = len ∙ ap length h.same ∙ h.kept.len;
+    few = omega (arith, few, ap (λ (z : Sums). z.count) h.view);
+    within = subst (λ (k : ℕ). AreWithin ((count + more) * (k * k)) ys) h.value w;
+  })
+
+  -- the products that were written back, in the order of k
+  pub written_in_order : (ys : List ℕ) (pairs views : List (List ℕ × List ℕ)) → all_ordered l pairs ≡ views → GatheredAll old pairs (length old) ys → AreSumsWithAll s.values views (in_order l (take n (ys ++ drop (length ys) xs)))
+  written_in_order ys pairs views views_are g =
+      subst (λ (zs : List ℕ). AreSumsWithAll s.values views (in_order l zs)) (sym (written_back n xs ys (g.len ∙ h.len)))
+      (gathered_all_in_order l xs old ys s.values pairs views own h.kept.len h.same views_are g)
 
 -- one product more, as a list
 pub with_product : List ℕ → List ℕ → List ℕ → List ℕ
@@ -148,3 +169,7 @@ first_of_all old a b new pairs h = record {
 
 pub last_of_all : (old a b new : List ℕ) → AreSumsWithAll old ((a, b) ∷ []) new → AreSumsWith old a b new
 last_of_all old a b new h = record { len = h.len; each = λ k u. omega (arith, h.each k u) }
+
+-- one product is several of one pair
+pub as_all : (old a b sums : List ℕ) (n : ℕ) → Gathered old a b n sums → GatheredAll old ((a, b) ∷ []) n sums
+as_all old a b sums n g = record { len = g.len; done = λ k u. omega (arith, g.done k u); rest = g.rest }

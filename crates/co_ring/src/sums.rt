@@ -7,7 +7,7 @@ ghost use Rattle.co_ring.specs.Product_sums.{AreReduced, IsNoSum, IsSumWith, IsS
 use crate::degrees::Degree;
 use crate::moduli::Modulus;
 use crate::spectra::Spectrum;
-use co_transform::{clear, gather, gather_four, gather_three, reduce_sums, reducer_of};
+use co_transform::{clear, gather, gather_three, reduce_sums, reducer_of};
 use std::alloc::{AllocError, Global};
 use std::marker::Model;
 
@@ -79,7 +79,7 @@ impl ProductSum {
         ensures { IsSumWith self.old a.now.values b.now.values self.new }
     {
         let q = self.modulus.value();
-        gather(&mut self.leaves, &a.leaves, &b.leaves, self.count, q);
+        gather(&mut self.leaves, a.leaves(), b.leaves(), self.count, q);
         self.count += 1;
     }
 
@@ -123,56 +123,6 @@ impl ProductSum {
             q,
         );
         self.count += 3;
-    }
-
-    /// Adds four products, each of two spectra that stand one after the other, in one pass.
-    pub fn add_four(
-        &mut self,
-        a: &Spectrum,
-        b: &Spectrum,
-        c: &Spectrum,
-        d: &Spectrum,
-        e: &Spectrum,
-        f: &Spectrum,
-        g: &Spectrum,
-        h: &Spectrum,
-    )
-        requires a_modulus { a.now.modulus ≡ self.old.modulus }
-        requires b_modulus { b.now.modulus ≡ self.old.modulus }
-        requires c_modulus { c.now.modulus ≡ self.old.modulus }
-        requires d_modulus { d.now.modulus ≡ self.old.modulus }
-        requires e_modulus { e.now.modulus ≡ self.old.modulus }
-        requires f_modulus { f.now.modulus ≡ self.old.modulus }
-        requires g_modulus { g.now.modulus ≡ self.old.modulus }
-        requires h_modulus { h.now.modulus ≡ self.old.modulus }
-        requires a_degree { length a.now.values ≡ length self.old.values }
-        requires b_degree { length b.now.values ≡ length self.old.values }
-        requires c_degree { length c.now.values ≡ length self.old.values }
-        requires d_degree { length d.now.values ≡ length self.old.values }
-        requires e_degree { length e.now.values ≡ length self.old.values }
-        requires f_degree { length f.now.values ≡ length self.old.values }
-        requires g_degree { length g.now.values ≡ length self.old.values }
-        requires h_degree { length h.now.values ≡ length self.old.values }
-        requires room { self.old.count + 4 ≤ most_products }
-        ensures { IsSumWithAll self.old
-            ((a.now.values, b.now.values) ∷ (c.now.values, d.now.values)
-            ∷ (e.now.values, f.now.values) ∷ (g.now.values, h.now.values) ∷ []) self.new }
-    {
-        let q = self.modulus.value();
-        gather_four(
-            &mut self.leaves,
-            a.leaves(),
-            b.leaves(),
-            c.leaves(),
-            d.leaves(),
-            e.leaves(),
-            f.leaves(),
-            g.leaves(),
-            h.leaves(),
-            self.count,
-            q,
-        );
-        self.count += 4;
     }
 
     /// The sums modulo the modulus.

@@ -88,38 +88,6 @@ impl PairSum {
         );
     }
 
-    /// Adds four products, each of two spectra that stand one after the other, in one pass.
-    pub fn add_four(
-        &mut self,
-        a: &PairSpectrum,
-        b: &PairSpectrum,
-        c: &PairSpectrum,
-        d: &PairSpectrum,
-        e: &PairSpectrum,
-        f: &PairSpectrum,
-        g: &PairSpectrum,
-        h: &PairSpectrum,
-    )
-        requires a_degree { spectrum_degree a.now ≡ length self.old.first }
-        requires b_degree { spectrum_degree b.now ≡ length self.old.first }
-        requires c_degree { spectrum_degree c.now ≡ length self.old.first }
-        requires d_degree { spectrum_degree d.now ≡ length self.old.first }
-        requires e_degree { spectrum_degree e.now ≡ length self.old.first }
-        requires f_degree { spectrum_degree f.now ≡ length self.old.first }
-        requires g_degree { spectrum_degree g.now ≡ length self.old.first }
-        requires h_degree { spectrum_degree h.now ≡ length self.old.first }
-        requires room { self.old.count + 4 ≤ most_products }
-        ensures { IsPairSumWithAll self.old
-            ((a.now, b.now) ∷ (c.now, d.now) ∷ (e.now, f.now) ∷ (g.now, h.now) ∷ []) self.new }
-    {
-        self.first.add_four(
-            &a.first, &b.first, &c.first, &d.first, &e.first, &f.first, &g.first, &h.first,
-        );
-        self.second.add_four(
-            &a.second, &b.second, &c.second, &d.second, &e.second, &f.second, &g.second, &h.second,
-        );
-    }
-
     /// The sums modulo q1 and q2.
     pub fn reduce(&self, into: &mut PairSpectrum)
         requires { spectrum_degree into.old ≡ length self.now.first }

@@ -48,6 +48,7 @@ use Rattle.co_rounds.specs.Answers.{Spells, IsAnswer, IsDone, IsScored, IsGather
 use Rattle.co_rounds.specs.Honest.{IsHonest, AreHeld}
 use Rattle.co_rounds.specs.Placing.{document_row, document_start}
 use Rattle.co_rounds.specs.Scoring.{AskScores, scores_read}
+use Rattle.co_rounds.specs.Retrieving.{OverRecordRound, OverDocumentRound}
 use Rattle.co_rounds.specs.Recording.{ShowsDocument, CanBeOpened, AsksFor, bytes_of, bucket_replies}
 use Rattle.co_rounds.specs.declared.answer.Answer.{Answer}
 use Rattle.co_rounds.specs.declared.answer.Answer.TheVariants.{Done, Length, NoKeys, Range, OutOfMemory}
@@ -190,12 +191,8 @@ score_round documents settings l built room secret is_secret degree keys keys_bo
     let scored : AreScoreReplies (weights_of l) keys queries replies = subst (λ (cs : List Ciphertext). AreScoreReplies (weights_of l) keys cs replies) same_queries (subst (λ (cs : List Ciphertext). AreScoreReplies (weights_of l) keys done.queries cs) same_replies done.scored) in
     scores_plain documents settings l built room secret is_secret degree keys spelled.keys_for good query few queries replies asks_spelled.ciphers asks scored
 
-pub record_round : (l : Parts) (secret : List ℤ) (keys : Keys) → CanBeOpened l secret keys → (keys_body : List ℕ) → SpellsKeys l.shape keys keys_body
-    → (queries : List Ciphertext) (asked : List ℕ) → SpellsCiphers l.shape.degree (bucket_count l.shape.hits) queries asked
-    → (reply : List ℕ) → IsHonest l (Some keys_body) (exchange_of (record { target = Meta; body = asked }) (reply_with 200 reply))
-    → (replies : List Ciphertext) → SpellsCiphers l.shape.degree (bucket_count l.shape.hits * record_chunks l.shape.degree) replies reply
-    → (bucket row : ℕ) → bucket < bucket_count l.shape.hits → AsksFor l.shape.degree secret (ciphertext_at queries bucket) l.shape.rows row
-    → IsPayload (row_bytes (bucket_table l bucket) row) (opened_reply secret (bucket_replies l.shape replies bucket))
+pub record_round : (l : Parts) (secret : List ℤ) (keys : Keys) → OverRecordRound l secret keys (λ queries replies. (bucket row : ℕ) → bucket < bucket_count l.shape.hits → AsksFor l.shape.degree secret (ciphertext_at queries bucket) l.shape.rows row
+    → IsPayload (row_bytes (bucket_table l bucket) row) (opened_reply secret (bucket_replies l.shape replies bucket)))
 record_round l secret keys can keys_body spelled queries asked asks_spelled reply honest replies replies_spelled bucket row b asks =
     let n = l.shape.degree in
     let count = bucket_count l.shape.hits in
@@ -206,12 +203,8 @@ record_round l secret keys can keys_body spelled queries asked asks_spelled repl
     subst (λ (cs : List Ciphertext). IsPayload (row_bytes (bucket_table l bucket) row) (opened_reply secret (bucket_replies l.shape cs bucket))) (sym (ap (gathered l keys) same_queries) ∙ same_replies)
     (bucket_opened l secret keys can queries bucket row b asks)
 
-pub document_round : (l : Parts) (secret : List ℤ) (keys : Keys) → CanBeOpened l secret keys → (keys_body : List ℕ) → SpellsKeys l.shape keys keys_body
-    → (query : Ciphertext) (asked : List ℕ) → SpellsCiphers l.shape.degree 1 (query ∷ []) asked
-    → (reply : List ℕ) → IsHonest l (Some keys_body) (exchange_of (record { target = ForDocument; body = asked }) (reply_with 200 reply))
-    → (replies : List Ciphertext) → SpellsCiphers l.shape.degree l.shape.chunks replies reply
-    → (bin : ℕ) → AsksFor l.shape.degree secret query l.shape.bins bin
-    → IsPayload (row_bytes (bin_table l) bin) (opened_reply secret replies)
+pub document_round : (l : Parts) (secret : List ℤ) (keys : Keys) → OverDocumentRound l secret keys (λ query replies. (bin : ℕ) → AsksFor l.shape.degree secret query l.shape.bins bin
+    → IsPayload (row_bytes (bin_table l) bin) (opened_reply secret replies))
 document_round l secret keys can keys_body spelled query asked asks_spelled reply honest replies replies_spelled bin asks =
     let n = l.shape.degree in
     let has = ranges l.shape can.library.published.good.ranges in
@@ -223,27 +216,19 @@ document_round l secret keys can keys_body spelled query asked asks_spelled repl
 
 -- ---- documents
 
-pub record_read : (l : Parts) (secret : List ℤ) (keys : Keys) → CanBeOpened l secret keys → (keys_body : List ℕ) → SpellsKeys l.shape keys keys_body
-    → (queries : List Ciphertext) (asked : List ℕ) → SpellsCiphers l.shape.degree (bucket_count l.shape.hits) queries asked
-    → (reply : List ℕ) → IsHonest l (Some keys_body) (exchange_of (record { target = Meta; body = asked }) (reply_with 200 reply))
-    → (replies : List Ciphertext) → SpellsCiphers l.shape.degree (bucket_count l.shape.hits * record_chunks l.shape.degree) replies reply
-    → (bucket number : ℕ) (document : Document) (shown : ShowsDocument l bucket number document) → bucket < bucket_count l.shape.hits
+pub record_read : (l : Parts) (secret : List ℤ) (keys : Keys) → OverRecordRound l secret keys (λ queries replies. (bucket number : ℕ) (document : Document) (shown : ShowsDocument l bucket number document) → bucket < bucket_count l.shape.hits
     → AsksFor l.shape.degree secret (ciphertext_at queries bucket) l.shape.rows (document_row l.shape bucket number)
     → record_of (take 256 (drop (document_start l.shape bucket number) (bytes_of (opened_reply secret (bucket_replies l.shape replies bucket)))))
-    ≡ Ok (record { document = number; place = shown.place; title = document.title })
+    ≡ Ok (record { document = number; place = shown.place; title = document.title }))
 record_read l secret keys can keys_body spelled queries asked asks_spelled reply honest replies replies_spelled bucket number document shown b asks =
     ap (λ (bytes : List ℕ). record_of (take 256 (drop (document_start l.shape bucket number) bytes)))
     (bytes_read (row_bytes (bucket_table l bucket) (document_row l.shape bucket number)) (opened_reply secret (bucket_replies l.shape replies bucket))
     (record_round l secret keys can keys_body spelled queries asked asks_spelled reply honest replies replies_spelled bucket (document_row l.shape bucket number) b asks))
     ∙ shown.read
 
-pub text_read : (l : Parts) (secret : List ℤ) (keys : Keys) → CanBeOpened l secret keys → (keys_body : List ℕ) → SpellsKeys l.shape keys keys_body
-    → (query : Ciphertext) (asked : List ℕ) → SpellsCiphers l.shape.degree 1 (query ∷ []) asked
-    → (reply : List ℕ) → IsHonest l (Some keys_body) (exchange_of (record { target = ForDocument; body = asked }) (reply_with 200 reply))
-    → (replies : List Ciphertext) → SpellsCiphers l.shape.degree l.shape.chunks replies reply
-    → (bucket number : ℕ) (document : Document) (shown : ShowsDocument l bucket number document)
+pub text_read : (l : Parts) (secret : List ℤ) (keys : Keys) → OverDocumentRound l secret keys (λ query replies. (bucket number : ℕ) (document : Document) (shown : ShowsDocument l bucket number document)
     → AsksFor l.shape.degree secret query l.shape.bins shown.place.bin
-    → take shown.place.length (drop shown.place.offset (bytes_of (opened_reply secret replies))) ≡ document.text
+    → take shown.place.length (drop shown.place.offset (bytes_of (opened_reply secret replies))) ≡ document.text)
 text_read l secret keys can keys_body spelled query asked asks_spelled reply honest replies replies_spelled bucket number document shown asks =
     ap (λ (bytes : List ℕ). take shown.place.length (drop shown.place.offset bytes))
     (bytes_read (row_bytes (bin_table l) shown.place.bin) (opened_reply secret replies)

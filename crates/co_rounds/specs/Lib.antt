@@ -7,3 +7,4 @@ pub mod Asked
 pub mod Scoring
 pub mod Placing
 pub mod Recording
+pub mod Retrieving

@@ -43,6 +43,7 @@ ghost use Rattle.co_rounds.specs.Honest.{IsHonest, AreHeld};
 ghost use Rattle.co_rounds.specs.Plans.{plan};
 ghost use Rattle.co_rounds.specs.Scoring.{AskScores, scores_read};
 ghost use Rattle.co_rounds.specs.Placing.{document_row, document_start};
+ghost use Rattle.co_rounds.specs.Retrieving.{OverRecordRound, OverDocumentRound};
 ghost use Rattle.co_rounds.specs.Recording.{IsLibraryFor, ShowsDocument, CanBeOpened, AsksFor, bytes_of, bucket_replies};
 ghost use Rattle.co_text.specs.declared.limits.TheConstants.{MAX_KEYWORDS};
 ghost use Rattle.co_pack.specs.declared.records.TheConstants.{RECORD_BYTES};
@@ -190,63 +191,41 @@ pub fn bins_open()
 /// The round of the records: over an honest exchange a client opens, of each bucket, the row that
 /// it asked.
 pub fn record_round_opens()
-    ensures { (l : Parts) (secret : List ℤ) (keys : Keys) → CanBeOpened l secret keys
-        → (keys_body : List ℕ) → SpellsKeys l.shape keys keys_body
-        → (queries : List Ciphertext) (asked : List ℕ)
-        → SpellsCiphers l.shape.degree (bucket_count l.shape.hits) queries asked
-        → (reply : List ℕ) → IsHonest l (Some keys_body)
-        (exchange_of (record { target = Meta; body = asked }) (reply_with 200 reply))
-        → (replies : List Ciphertext)
-        → SpellsCiphers l.shape.degree (bucket_count l.shape.hits * record_chunks l.shape.degree)
-        replies reply
-        → (bucket row : ℕ) → bucket < bucket_count l.shape.hits
+    ensures { (l : Parts) (secret : List ℤ) (keys : Keys)
+        → OverRecordRound l secret keys (λ queries replies. (bucket row : ℕ)
+        → bucket < bucket_count l.shape.hits
         → AsksFor l.shape.degree secret (ciphertext_at queries bucket) l.shape.rows row
         → IsPayload (row_bytes (bucket_table l bucket) row)
-        (opened_reply secret (bucket_replies l.shape replies bucket)) }
+        (opened_reply secret (bucket_replies l.shape replies bucket))) }
 {}
 
 /// The round of the document: over an honest exchange a client opens the bin that it asked.
 pub fn document_round_opens()
-    ensures { (l : Parts) (secret : List ℤ) (keys : Keys) → CanBeOpened l secret keys
-        → (keys_body : List ℕ) → SpellsKeys l.shape keys keys_body
-        → (query : Ciphertext) (asked : List ℕ) → SpellsCiphers l.shape.degree 1 (query ∷ []) asked
-        → (reply : List ℕ) → IsHonest l (Some keys_body)
-        (exchange_of (record { target = ForDocument; body = asked }) (reply_with 200 reply))
-        → (replies : List Ciphertext) → SpellsCiphers l.shape.degree l.shape.chunks replies reply
-        → (bin : ℕ) → AsksFor l.shape.degree secret query l.shape.bins bin
-        → IsPayload (row_bytes (bin_table l) bin) (opened_reply secret replies) }
+    ensures { (l : Parts) (secret : List ℤ) (keys : Keys)
+        → OverDocumentRound l secret keys (λ query replies. (bin : ℕ)
+        → AsksFor l.shape.degree secret query l.shape.bins bin
+        → IsPayload (row_bytes (bin_table l) bin) (opened_reply secret replies)) }
 {}
 
 /// So a client that asks a bucket for the row of a document reads the document's record there.
 pub fn records_are_read()
-    ensures { (l : Parts) (secret : List ℤ) (keys : Keys) → CanBeOpened l secret keys
-        → (keys_body : List ℕ) → SpellsKeys l.shape keys keys_body
-        → (queries : List Ciphertext) (asked : List ℕ)
-        → SpellsCiphers l.shape.degree (bucket_count l.shape.hits) queries asked
-        → (reply : List ℕ) → IsHonest l (Some keys_body)
-        (exchange_of (record { target = Meta; body = asked }) (reply_with 200 reply))
-        → (replies : List Ciphertext)
-        → SpellsCiphers l.shape.degree (bucket_count l.shape.hits * record_chunks l.shape.degree)
-        replies reply
-        → (bucket number : ℕ) (document : Document) (shown : ShowsDocument l bucket number document)
+    ensures { (l : Parts) (secret : List ℤ) (keys : Keys)
+        → OverRecordRound l secret keys (λ queries replies. (bucket number : ℕ)
+        (document : Document) (shown : ShowsDocument l bucket number document)
         → bucket < bucket_count l.shape.hits
         → AsksFor l.shape.degree secret (ciphertext_at queries bucket) l.shape.rows
         (document_row l.shape bucket number)
         → record_of (take RECORD_BYTES (drop (document_start l.shape bucket number)
         (bytes_of (opened_reply secret (bucket_replies l.shape replies bucket)))))
-        ≡ Ok (record { document = number; place = shown.place; title = document.title }) }
+        ≡ Ok (record { document = number; place = shown.place; title = document.title })) }
 {}
 
 /// And a client that asks for the bin that the record names reads the document's text there.
 pub fn texts_are_read()
-    ensures { (l : Parts) (secret : List ℤ) (keys : Keys) → CanBeOpened l secret keys
-        → (keys_body : List ℕ) → SpellsKeys l.shape keys keys_body
-        → (query : Ciphertext) (asked : List ℕ) → SpellsCiphers l.shape.degree 1 (query ∷ []) asked
-        → (reply : List ℕ) → IsHonest l (Some keys_body)
-        (exchange_of (record { target = ForDocument; body = asked }) (reply_with 200 reply))
-        → (replies : List Ciphertext) → SpellsCiphers l.shape.degree l.shape.chunks replies reply
-        → (bucket number : ℕ) (document : Document) (shown : ShowsDocument l bucket number document)
+    ensures { (l : Parts) (secret : List ℤ) (keys : Keys)
+        → OverDocumentRound l secret keys (λ query replies. (bucket number : ℕ)
+        (document : Document) (shown : ShowsDocument l bucket number document)
         → AsksFor l.shape.degree secret query l.shape.bins shown.place.bin
         → take shown.place.length (drop shown.place.offset (bytes_of (opened_reply secret replies)))
-        ≡ document.text }
+        ≡ document.text) }
 {}

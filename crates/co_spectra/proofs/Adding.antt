@@ -18,7 +18,7 @@ use Rattle.co_bfv.specs.Ciphertexts.{Ciphertext, ciphertext_degree, ciphertext_s
 use Rattle.co_bfv.specs.Totals.{no_ciphertext, IsOfDegree}
 use Rattle.co_bfv.proofs.Combined.{c0-IsWrapped, c1-IsWrapped}
 use Rattle.co_bfv.proofs.Totals.{residues_agree_low, sum-parts, ciphertext_sum-IsOfDegree, ciphertext_total-zero, ciphertext_total-IsOfDegree}
-use Rattle.co_spectra.specs.Sums.{CipherSums, IsCipherSumOf, four_added}
+use Rattle.co_spectra.specs.Sums.{CipherSums, IsCipherSumOf, three_added}
 use Rattle.co_spectra.specs.Values.{CipherValues, AreCipherValues, ArePlainValues}
 use Rattle.co_spectra.proofs.Agreeing.{pair_sum_low}
 
@@ -117,19 +117,18 @@ next_are : (s : CipherSums) (turned : CipherValues) (plain : PairValues) (c a : 
     → IsCipherSumOf (ciphertext_sum c (plain_product a p)) (with_cipher s turned plain)
 next_are s turned plain c a p d h u v = product_are s (with_pair s.c0 turned.c0 plain) (with_pair s.c1 turned.c1 plain) turned plain c a p d h u v (with_pair-is s.c0 turned.c0 plain) (with_pair-is s.c1 turned.c1 plain)
 
--- four products that were added in one pass
-pub four_are : (s : CipherSums) (c₀ c₁ : PairSums) (t₁ t₂ t₃ t₄ : CipherValues) (v₁ v₂ v₃ v₄ : PairValues) (c a₁ a₂ a₃ a₄ : Ciphertext) (p₁ p₂ p₃ p₄ : List ℕ) → IsDegree s.degree → IsCipherSumOf c s
+-- three products that were added in one pass
+pub three_are : (s : CipherSums) (c₀ c₁ : PairSums) (t₁ t₂ t₃ : CipherValues) (v₁ v₂ v₃ : PairValues) (c a₁ a₂ a₃ : Ciphertext) (p₁ p₂ p₃ : List ℕ) → IsDegree s.degree → IsCipherSumOf c s
     → AreCipherValues s.degree a₁ t₁ → ArePlainValues s.degree p₁ v₁ → AreCipherValues s.degree a₂ t₂ → ArePlainValues s.degree p₂ v₂
-    → AreCipherValues s.degree a₃ t₃ → ArePlainValues s.degree p₃ v₃ → AreCipherValues s.degree a₄ t₄ → ArePlainValues s.degree p₄ v₄
-    → IsPairSumWithAll s.c0 ((t₁.c0, v₁) ∷ (t₂.c0, v₂) ∷ (t₃.c0, v₃) ∷ (t₄.c0, v₄) ∷ []) c₀ → IsPairSumWithAll s.c1 ((t₁.c1, v₁) ∷ (t₂.c1, v₂) ∷ (t₃.c1, v₃) ∷ (t₄.c1, v₄) ∷ []) c₁
-    → IsCipherSumOf (four_added c a₁ a₂ a₃ a₄ p₁ p₂ p₃ p₄) (record { degree = s.degree; c0 = c₀; c1 = c₁ })
-four_are s c₀ c₁ t₁ t₂ t₃ t₄ v₁ v₂ v₃ v₄ c a₁ a₂ a₃ a₄ p₁ p₂ p₃ p₄ d h x₁ y₁ x₂ y₂ x₃ y₃ x₄ y₄ f g =
+    → AreCipherValues s.degree a₃ t₃ → ArePlainValues s.degree p₃ v₃
+    → IsPairSumWithAll s.c0 ((t₁.c0, v₁) ∷ (t₂.c0, v₂) ∷ (t₃.c0, v₃) ∷ []) c₀ → IsPairSumWithAll s.c1 ((t₁.c1, v₁) ∷ (t₂.c1, v₂) ∷ (t₃.c1, v₃) ∷ []) c₁
+    → IsCipherSumOf (three_added c a₁ a₂ a₃ p₁ p₂ p₃) (record { degree = s.degree; c0 = c₀; c1 = c₁ })
+three_are s c₀ c₁ t₁ t₂ t₃ v₁ v₂ v₃ c a₁ a₂ a₃ p₁ p₂ p₃ d h x₁ y₁ x₂ y₂ x₃ y₃ f g =
     let s₁ = with_cipher s t₁ v₁ in
     let s₂ = with_cipher s₁ t₂ v₂ in
-    let s₃ = with_cipher s₂ t₃ v₃ in
-    product_are s₃ c₀ c₁ t₄ v₄ _ a₄ p₄ d (next_are s₂ t₃ v₃ _ a₃ p₃ d (next_are s₁ t₂ v₂ _ a₂ p₂ d (next_are s t₁ v₁ c a₁ p₁ d h x₁ y₁) x₂ y₂) x₃ y₃) x₄ y₄
-    (last_of_pairs s₃.c0 t₄.c0 v₄ c₀ (first_of_pairs s₂.c0 t₃.c0 v₃ c₀ _ (first_of_pairs s₁.c0 t₂.c0 v₂ c₀ _ (first_of_pairs s.c0 t₁.c0 v₁ c₀ _ f))))
-    (last_of_pairs s₃.c1 t₄.c1 v₄ c₁ (first_of_pairs s₂.c1 t₃.c1 v₃ c₁ _ (first_of_pairs s₁.c1 t₂.c1 v₂ c₁ _ (first_of_pairs s.c1 t₁.c1 v₁ c₁ _ g))))
+    product_are s₂ c₀ c₁ t₃ v₃ _ a₃ p₃ d (next_are s₁ t₂ v₂ _ a₂ p₂ d (next_are s t₁ v₁ c a₁ p₁ d h x₁ y₁) x₂ y₂) x₃ y₃
+    (last_of_pairs s₂.c0 t₃.c0 v₃ c₀ (first_of_pairs s₁.c0 t₂.c0 v₂ c₀ _ (first_of_pairs s.c0 t₁.c0 v₁ c₀ _ f)))
+    (last_of_pairs s₂.c1 t₃.c1 v₃ c₁ (first_of_pairs s₁.c1 t₂.c1 v₂ c₁ _ (first_of_pairs s.c1 t₁.c1 v₁ c₁ _ g)))
 
 -- the ciphertext that a sum is
 pub cipher_is : (s : CipherSums) (c r : Ciphertext) → IsCipherSumOf c s → r.c0 ≡ residues_of q s.degree (coefficients c.c0) → r.c1 ≡ residues_of q s.degree (coefficients c.c1) → r ≡ c

@@ -27,7 +27,7 @@ pub record AreKept (s : CipherSums) (count : ℕ) : Type 0 where
   pub c1_count : s.c1.count ≡ count
   pub few : count ≤ most_products
 
--- four products of ciphertexts and plain polynomials added to a ciphertext, one after another
-abbrev pub four_added : Ciphertext → Ciphertext → Ciphertext → Ciphertext → Ciphertext → List ℕ → List ℕ → List ℕ → List ℕ → Ciphertext
-four_added c a₁ a₂ a₃ a₄ p₁ p₂ p₃ p₄ =
-    ciphertext_sum (ciphertext_sum (ciphertext_sum (ciphertext_sum c (plain_product a₁ p₁)) (plain_product a₂ p₂)) (plain_product a₃ p₃)) (plain_product a₄ p₄)
+-- three products of ciphertexts and plain polynomials added to a ciphertext, one after another
+abbrev pub three_added : Ciphertext → Ciphertext → Ciphertext → Ciphertext → List ℕ → List ℕ → List ℕ → Ciphertext
+three_added c a₁ a₂ a₃ p₁ p₂ p₃ =
+    ciphertext_sum (ciphertext_sum (ciphertext_sum c (plain_product a₁ p₁)) (plain_product a₂ p₂)) (plain_product a₃ p₃)

@@ -7,7 +7,7 @@ ghost use Rattle.co_ring.specs.Product_sums.{most_products};
 ghost use Rattle.co_rns.specs.Spectra.{IsPairSumOf, IsSpectrumOf, spectrum_degree};
 ghost use Rattle.co_bfv.specs.Ciphertexts.{Ciphertext, ciphertext_degree, ciphertext_sum, plain_product, zero_ciphertext};
 ghost use Rattle.co_spectra.specs.Values.{AreCipherValues, AreOfDegree, ArePlainValues};
-ghost use Rattle.co_spectra.specs.Sums.{IsCipherSumOf, four_added};
+ghost use Rattle.co_spectra.specs.Sums.{IsCipherSumOf, three_added};
 
 use crate::values::CipherSpectrum;
 use co_bfv::Cipher;
@@ -117,8 +117,8 @@ impl CipherSum {
         self.count += 1;
     }
 
-    /// Adds four products, each of a ciphertext and the plain polynomial after it, in one pass.
-    pub fn add_four(
+    /// Adds three products, each of a ciphertext and the plain polynomial after it, in one pass.
+    pub fn add_three(
         &mut self,
         a: &CipherSpectrum,
         b: &PairSpectrum,
@@ -126,19 +126,15 @@ impl CipherSum {
         d: &PairSpectrum,
         e: &CipherSpectrum,
         f: &PairSpectrum,
-        g: &CipherSpectrum,
-        h: &PairSpectrum,
     )
-        requires few { self.old.c0.count + 4 ≤ most_products }
+        requires few { self.old.c0.count + 3 ≤ most_products }
         requires a_degree { AreOfDegree self.old.degree a.now }
         requires b_degree { spectrum_degree b.now ≡ self.old.degree }
         requires c_degree { AreOfDegree self.old.degree c.now }
         requires d_degree { spectrum_degree d.now ≡ self.old.degree }
         requires e_degree { AreOfDegree self.old.degree e.now }
         requires f_degree { spectrum_degree f.now ≡ self.old.degree }
-        requires g_degree { AreOfDegree self.old.degree g.now }
-        requires h_degree { spectrum_degree h.now ≡ self.old.degree }
-        ensures products { (k k1 k2 k3 k4 : Ciphertext) (p1 p2 p3 p4 : List ℕ)
+        ensures products { (k k1 k2 k3 : Ciphertext) (p1 p2 p3 : List ℕ)
             → IsCipherSumOf k self.old
             → AreCipherValues self.old.degree k1 a.now
             → ArePlainValues self.old.degree p1 b.now
@@ -146,15 +142,13 @@ impl CipherSum {
             → ArePlainValues self.old.degree p2 d.now
             → AreCipherValues self.old.degree k3 e.now
             → ArePlainValues self.old.degree p3 f.now
-            → AreCipherValues self.old.degree k4 g.now
-            → ArePlainValues self.old.degree p4 h.now
-            → IsCipherSumOf (four_added k k1 k2 k3 k4 p1 p2 p3 p4) self.new }
+            → IsCipherSumOf (three_added k k1 k2 k3 p1 p2 p3) self.new }
         ensures degree { self.new.degree ≡ self.old.degree }
-        ensures count { self.new.c0.count ≡ self.old.c0.count + 4 }
+        ensures count { self.new.c0.count ≡ self.old.c0.count + 3 }
     {
-        self.c0.add_four(&a.c0, b, &c.c0, d, &e.c0, f, &g.c0, h);
-        self.c1.add_four(&a.c1, b, &c.c1, d, &e.c1, f, &g.c1, h);
-        self.count += 4;
+        self.c0.add_three(&a.c0, b, &c.c0, d, &e.c0, f);
+        self.c1.add_three(&a.c1, b, &c.c1, d, &e.c1, f);
+        self.count += 3;
     }
 
     /// Reduces the sum where it takes no product more. The room is scratch, `one` has the values of

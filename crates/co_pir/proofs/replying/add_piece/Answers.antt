@@ -7,7 +7,7 @@ use Rattle.co_spectra.specs.Sums.{IsCipherSumOf}
 use Rattle.co_spectra.specs.Values.{CipherValues, AreCipherValues, ArePlainValues}
 use Rattle.co_pir.specs.Tables.{payload_at}
 use Rattle.co_pir.specs.Units.{piece_sum, rows_of}
-use Rattle.co_pir.proofs.Answering.{piece_inside, row_inside, none_gathered, one_gathered, four_gathered}
+use Rattle.co_pir.proofs.Answering.{piece_inside, row_inside, none_gathered, one_gathered, three_gathered}
 use Rattle.co_pir.proofs.replying.add_piece.Goals as goal
 
 pub overflow_mul-first : goal.overflow_mul-first
@@ -24,18 +24,18 @@ pub loop-turn-preserved : goal.loop-turn-preserved
 loop-turn-preserved c =
     let t = c.args.rows.now in
     let i = c.loop-turn.invariant in
-    let at = 4 * c.loop-turn.turn in
+    let at = 3 * c.loop-turn.turn in
     let row = c.args.piece * 64 + at in
     let size = c.min-count.ensures ∙ ap (λ k. min 64 (k - c.args.piece * 64)) c.rows.ensures in
     let inside : (k : ℕ) → at + k < c.min-count.result → row + k < t.rows = λ k l. omega (arith, row_inside t.rows c.args.piece c.min-count.result (at + k) c.requires.piece size l) in
-    let up : at + 4 ≡ 4 * (c.loop-turn.turn + 1) = omega arith in
+    let up : at + 3 ≡ 3 * (c.loop-turn.turn + 1) = omega arith in
     record {
-      degree = c.add_four.ensures.degree ∙ i.degree;
-      counted = c.add_four.ensures.count ∙ ap (λ k. k + 4) i.counted ∙ up;
-      sum = λ cs v. subst (λ (k : ℕ). IsCipherSumOf (piece_sum t cs c.args.chunk c.args.piece k) c.add_four.new.self) up
-          (four_gathered t cs c.args.chunk c.args.piece at row c.add_four.new.self refl
-          (c.add_four.ensures.products (piece_sum t cs c.args.chunk c.args.piece at) (ciphertext_at cs row) (ciphertext_at cs (row + 1)) (ciphertext_at cs (row + 2)) (ciphertext_at cs (row + 3))
-          (payload_at t row c.args.chunk) (payload_at t (row + 1) c.args.chunk) (payload_at t (row + 2) c.args.chunk) (payload_at t (row + 3) c.args.chunk) (i.sum cs v)
+      degree = c.add_three.ensures.degree ∙ i.degree;
+      counted = c.add_three.ensures.count ∙ ap (λ k. k + 3) i.counted ∙ up;
+      sum = λ cs v. subst (λ (k : ℕ). IsCipherSumOf (piece_sum t cs c.args.chunk c.args.piece k) c.add_three.new.self) up
+          (three_gathered t cs c.args.chunk c.args.piece at row c.add_three.new.self refl
+          (c.add_three.ensures.products (piece_sum t cs c.args.chunk c.args.piece at) (ciphertext_at cs row) (ciphertext_at cs (row + 1)) (ciphertext_at cs (row + 2))
+          (payload_at t row c.args.chunk) (payload_at t (row + 1) c.args.chunk) (payload_at t (row + 2) c.args.chunk) (i.sum cs v)
           (subst (λ (k : ℕ). AreCipherValues k (ciphertext_at cs (row)) c.index-values-row.result) (sym i.degree)
           (subst (λ (x : CipherValues). AreCipherValues t.degree (ciphertext_at cs (row)) x) (sym c.index-values-row.is) (v.each (row) c.index-values-row.result (omega (arith, inside 0 (omega (arith, c.loop-turn-test.true)))))))
           (subst (λ (k : ℕ). ArePlainValues k (payload_at t (row) c.args.chunk) c.payload.result.now) (sym i.degree) c.payload.ensures)
@@ -44,16 +44,13 @@ loop-turn-preserved c =
           (subst (λ (k : ℕ). ArePlainValues k (payload_at t (row + 1) c.args.chunk) c.payload-in-loop-turn.result.now) (sym i.degree) c.payload-in-loop-turn.ensures)
           (subst (λ (k : ℕ). AreCipherValues k (ciphertext_at cs (row + 2)) c.index-values-row-in-loop-turn-2.result) (sym i.degree)
           (subst (λ (x : CipherValues). AreCipherValues t.degree (ciphertext_at cs (row + 2)) x) (sym c.index-values-row-in-loop-turn-2.is) (v.each (row + 2) c.index-values-row-in-loop-turn-2.result (inside 2 (omega (arith, c.loop-turn-test.true))))))
-          (subst (λ (k : ℕ). ArePlainValues k (payload_at t (row + 2) c.args.chunk) c.payload-in-loop-turn-2.result.now) (sym i.degree) c.payload-in-loop-turn-2.ensures)
-          (subst (λ (k : ℕ). AreCipherValues k (ciphertext_at cs (row + 3)) c.index-values-row-in-loop-turn-3.result) (sym i.degree)
-          (subst (λ (x : CipherValues). AreCipherValues t.degree (ciphertext_at cs (row + 3)) x) (sym c.index-values-row-in-loop-turn-3.is) (v.each (row + 3) c.index-values-row-in-loop-turn-3.result (inside 3 (omega (arith, c.loop-turn-test.true))))))
-          (subst (λ (k : ℕ). ArePlainValues k (payload_at t (row + 3) c.args.chunk) c.payload-in-loop-turn-3.result.now) (sym i.degree) c.payload-in-loop-turn-3.ensures)));
+          (subst (λ (k : ℕ). ArePlainValues k (payload_at t (row + 2) c.args.chunk) c.payload-in-loop-turn-2.result.now) (sym i.degree) c.payload-in-loop-turn-2.ensures)));
     }
 
 pub loop-j-init : goal.loop-j-init
 loop-j-init c =
     let i = c.loop-turn.invariant in
-    let done : 4 * c.loop-turn.turn ≡ c.min-count.result / 4 * 4 = omega arith in
+    let done : 3 * c.loop-turn.turn ≡ c.min-count.result / 3 * 3 = omega arith in
     record {
       degree = i.degree;
       counted = i.counted ∙ done;

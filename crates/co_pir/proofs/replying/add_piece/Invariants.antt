@@ -9,8 +9,8 @@ use Rattle.co_pir.proofs.replying.add_piece.Given as goal
 abbrev pub invariant-loop-turn : goal.invariant-loop-turn
 invariant-loop-turn l = record {
   degree : l.products.degree ≡ l.rows.degree;
-  counted : l.products.c0.count ≡ 4 * l.turn;
-  sum : (cs : List Ciphertext) → AreRowValues l.rows.degree l.rows.rows cs l.values → IsCipherSumOf (piece_sum l.rows cs l.chunk l.piece (4 * l.turn)) l.products;
+  counted : l.products.c0.count ≡ 3 * l.turn;
+  sum : (cs : List Ciphertext) → AreRowValues l.rows.degree l.rows.rows cs l.values → IsCipherSumOf (piece_sum l.rows cs l.chunk l.piece (3 * l.turn)) l.products;
 }
 
 abbrev pub invariant-loop-j : goal.invariant-loop-j
