@@ -1,16 +1,14 @@
 -- A search round by round, by what its calls give: what it tells where one of them gives nothing, and at its end.
-use Rattle.std.proofs.Common.{◌≡◌, ℕ, ◌<◌, ◌≤◌, refl, sym, ap, subst, ◌∙◌, ⊎_elim, arith, Bool, true, false, cond, eqb, ◌-◌, List, [], length, Option, Some, None, Ok, Err}
+use Rattle.std.proofs.Common.{◌≡◌, ℕ, ◌<◌, ◌≤◌, refl, sym, ap, subst, ◌∙◌, ⊎_elim, arith, Bool, true, false, cond, eqb, ◌-◌, List, [], length, Option, Some, None, Result, Ok, Err}
 use Rattle.std.specs.Prelude.{All, slice_get}
 use Rattle.rand_core.specs.Stream.{Stream}
 use Rattle.co_link.specs.Exchanges.{LinkCall}
 use Rattle.co_link.specs.declared.messages.Target.TheVariants as targets_of
 use Rattle.co_link.specs.declared.messages.Request.{Request}
 use Rattle.co_link.specs.declared.messages.Exchange.{Exchange}
-use Rattle.co_noise.specs.Shapes.{Numbers, HasRanges}
-use Rattle.co_noise.proofs.Ranges.{ranges}
+use Rattle.co_noise.specs.Shapes.{Numbers}
 use Rattle.co_bfv.specs.Ciphertexts.{Ciphertext}
 use Rattle.co_bucket.specs.Lists.{bucket_count}
-use Rattle.co_bucket.specs.Rows.{rows_of}
 use Rattle.co_pack.specs.declared.records.Record.{Record}
 use Rattle.co_text.specs.Terms.{distinct}
 use Rattle.co_text.specs.Numbers.{numbers_of, unknown_in}
@@ -22,7 +20,6 @@ use Rattle.co_rounds.specs.Asked.{AreKeywordMessages}
 use Rattle.co_rounds.specs.Placing.{rows_asked}
 use Rattle.co_rounds.specs.Recording.{is_within_bins}
 use Rattle.co_client.specs.declared.fault.SearchFault.{SearchFault}
-use Rattle.co_client.specs.declared.fault.SearchFault.TheVariants.{OutOfMemory}
 use Rattle.co_client.specs.declared.publishing.Published.{Published}
 use Rattle.co_client.specs.declared.ranking.Ranked.{Ranked}
 use Rattle.co_client.specs.Causes.{Search, secret_of}
@@ -30,18 +27,19 @@ use Rattle.co_client.specs.Faults.{IsReadAs}
 use Rattle.co_client.specs.Gathered.{with_bins, records_request, records_rest, ReadsReplies, RecordsFail}
 use Rattle.co_client.specs.Telling.{Told}
 use Rattle.co_client.specs.Published.{Consults, PublicFails}
-use Rattle.co_client.specs.Placings.{ArePlaced, shown_of, concluded}
-use Rattle.co_client.specs.Records.{records_read, picked_record, picked_read, bin_asked, hits_shown}
+use Rattle.co_client.specs.Placings.{ArePlaced, shown_of}
+use Rattle.co_client.specs.Records.{◌>>=◌, records_read, picked_record, picked_read, bin_asked, hits_shown}
+use Rattle.co_client.specs.Shown.{answer_of, answer_read}
 use Rattle.co_client.specs.Rounds.{ReaderState, Comes, Ranks, Gives, RoundFails, LinkFails, keys_request, queries_request, queries_rest, record_messages, bin_messages}
 use Rattle.co_client.proofs.Trails.{secret_at, after_keys, after_scores, after_records, after_all, score_request, record_request, bin_request}
 use Rattle.co_client.proofs.Unanswered.{fails-as}
-use Rattle.co_client.proofs.Spelled.{spelled-long}
 use Rattle.co_client.proofs.Placed.{rows-long}
 use Rattle.co_client.proofs.Plain_text.{bin_within}
 use Rattle.co_client.proofs.Whole_replies.{got-within}
 use Rattle.co_client.proofs.Ends.{Begun, begun-of, public-told, keys-told, scores-told}
 use Rattle.co_client.proofs.Finishes.{Scored, scored-of, records-told, record-told, document-told, text-told, answer-told, concluded-told}
-use Rattle.co_client.proofs.Recorded.{Hits, fails-by}
+use Rattle.co_client.proofs.RecordFaults.{want-or-not}
+use Rattle.co_client.proofs.Recorded.{fails-by}
 
 -- a failed link of one call, as that of a search
 as-found : {T : Type 0} (before now : ℕ) (is : Option LinkCall) (call : LinkCall) (fault : SearchFault) → LinkFails {T = T} before now is call (Err fault) → LinkFails {T = Found} before now is call (Err fault)
@@ -129,15 +127,6 @@ module _ (run : Search) (was : Option (List Exchange)) where
         let few_here = subst (λ (x : ReaderState). length ranked.hits ≤ x.shape.hits) reader_is few in
         let placed_here = subst (λ (x : ReaderState). ArePlaced x.shape ranked.hits ranked.buckets ranked.refused) reader_is placed in
         subst (λ (x : ReaderState). HasRanked now x ranked rest) (sym reader_is) (record { scored = scored; secret = refl; few = few_here; placed = placed_here })
-
-  -- ---- what holds of the published numbers
-
-  module _ (now : Option (List Exchange)) (reader : ReaderState) (ranked : Ranked) (rest : Stream) (h : HasRanked now reader ranked rest) where
-    pub has-ranges : HasRanges reader.shape
-    has-ranges = ranges reader.shape h.scored.begun.good.good.ranges
-
-    pub has-rows : reader.shape.rows ≡ rows_of reader.shape.degree reader.shape.documents reader.shape.hits reader.shape.salt
-    has-rows = h.scored.begun.good.good.rows
 
   -- ---- the records
 
@@ -238,25 +227,28 @@ module _ (run : Search) (was : Option (List Exchange)) where
         }
 
     module _ (last : Option (List Exchange)) (reply5 : List ℕ) (left : Stream) (f : HasFetched last reply5 left) where
-      pub fetched-long : length reply5 ≡ reply_size reader.shape targets_of.Document
-      fetched-long = spelled-long s.degree s.chunks f.replies reply5 f.spelled
+      -- memory is wanting, or it ends as the records and the bin show
+      ends-told : (result wanted : Result Found SearchFault) → IsReadAs result wanted → Told run was last wanted left → Told run was last result left
+      ends-told (Ok found) wanted h told = subst (λ (r : Result Found SearchFault). Told run was last r left) h told
+      ends-told (Err fault) wanted h told =
+          ⊎_elim
+          (λ e.
+          subst (λ (x : SearchFault). Told run was last (Err x) left) (sym e)
+          (answer-told run was g.mid s ranked.hits ranked.unknown g.stream g.ranks.scored ranked.buckets ranked.refused all_rows g.ranks.placed refl all_long now g.read.body g.read.replies came g.read.spelled records found last reply5 f.replies f.came5 f.spelled left))
+          (λ w. subst (λ (r : Result Found SearchFault). Told run was last r left) (h w) told) (want-or-not fault)
 
-      pub unread-told : (body : List ℕ) (rs : List Record) (fault : SearchFault) (stream : Stream) → body ≡ reply5 → rs ≡ records
-          → ((cs : List Ciphertext) → SpellsCiphers reader.shape.degree reader.shape.chunks cs body → IsReadAs (Err fault) (picked_read reader.secret cs (picked_record rs run.pick))) → Told run was last (Err fault) stream
-      unread-told body rs fault stream eb er h =
-          let same : picked_read reader.secret f.replies (picked_record rs run.pick) ≡ picked_read (secret_of run s) f.replies (picked_record records run.pick) = λ t. picked_read (g.ranks.secret t) f.replies (picked_record (er t) run.pick) in
-          text-told run was g.mid s ranked.hits ranked.unknown g.stream g.ranks.scored ranked.buckets ranked.refused all_rows g.ranks.placed refl all_long now g.read.body g.read.replies came g.read.spelled records found last reply5 f.replies f.came5 f.spelled fault stream
-          (λ w. sym same ∙ h f.replies (subst (λ (x : List ℕ). SpellsCiphers s.degree s.chunks f.replies x) (sym eb) f.spelled) w)
-
-      pub no-memory-told : (stream : Stream) → Told run was last (Err OutOfMemory) stream
-      no-memory-told stream =
-          answer-told run was g.mid s ranked.hits ranked.unknown g.stream g.ranks.scored ranked.buckets ranked.refused all_rows g.ranks.placed refl all_long now g.read.body g.read.replies came g.read.spelled records found last reply5 f.replies f.came5 f.spelled stream
-
-      pub all-told : (body : List ℕ) (rs shown_records : List Record) (shown : Hits) (answer : Found) → body ≡ reply5 → rs ≡ records → shown ≡ shown_of ranked.refused ranked.hits → shown_records ≡ records → answer.hits ≡ hits_shown shown shown_records → answer.unknown ≡ ranked.unknown
-          → ((cs : List Ciphertext) → SpellsCiphers reader.shape.degree reader.shape.chunks cs body → IsReadAs (Ok answer.document) (picked_read reader.secret cs (picked_record rs run.pick))) → Told run was last (concluded ranked.refused answer) left
-      all-told body rs shown_records shown answer eb er es ers eh eu h =
-          let same : picked_read reader.secret f.replies (picked_record rs run.pick) ≡ picked_read (secret_of run s) f.replies (picked_record records run.pick) = λ t. picked_read (g.ranks.secret t) f.replies (picked_record (er t) run.pick) in
-          concluded-told run was g.mid s ranked.hits ranked.unknown g.stream g.ranks.scored ranked.buckets ranked.refused all_rows g.ranks.placed refl all_long now g.read.body g.read.replies came g.read.spelled records found last reply5 f.replies f.came5 f.spelled answer left
-          (eh ∙ (λ t. hits_shown (es t) (ers t))) (eu ∙ g.ranks.scored.begun.unknown_are)
-          (sym same ∙ h f.replies (subst (λ (x : List ℕ). SpellsCiphers s.degree s.chunks f.replies x) (sym eb) f.spelled))
-          f.left_is
+      pub shown-told : (body : List ℕ) (rs : List Record) (result : Result Found SearchFault) → body ≡ reply5 → rs ≡ records
+          → ((cs : List Ciphertext) → SpellsCiphers reader.shape.degree reader.shape.chunks cs body → IsReadAs result (answer_read reader.secret cs ranked rs run.pick)) → Told run was last result left
+      shown-told body rs result eb er h =
+          let same : answer_read reader.secret f.replies ranked rs run.pick ≡ answer_read (secret_of run s) f.replies ranked records run.pick = λ t. answer_read (g.ranks.secret t) f.replies ranked (er t) run.pick in
+          step (picked_read (secret_of run s) f.replies (picked_record records run.pick)) refl
+          (subst (IsReadAs result) same (h f.replies (subst (λ (x : List ℕ). SpellsCiphers s.degree s.chunks f.replies x) (sym eb) f.spelled)))
+        where
+          step : (picked : Result (Option (ℕ × List ℕ)) SearchFault) → picked_read (secret_of run s) f.replies (picked_record records run.pick) ≡ picked → IsReadAs result (picked >>= answer_of ranked records) → Told run was last result left
+          step (Ok document) e h =
+              ends-told result (answer_of ranked records document) h
+              (concluded-told run was g.mid s ranked.hits ranked.unknown g.stream g.ranks.scored ranked.buckets ranked.refused all_rows g.ranks.placed refl all_long now g.read.body g.read.replies came g.read.spelled records found last reply5 f.replies f.came5 f.spelled
+              (record { hits = hits_shown (shown_of ranked.refused ranked.hits) records; unknown = ranked.unknown; document = document }) left refl g.ranks.scored.begun.unknown_are e f.left_is)
+          step (Err fault) e h =
+              ends-told result (Err fault) h
+              (text-told run was g.mid s ranked.hits ranked.unknown g.stream g.ranks.scored ranked.buckets ranked.refused all_rows g.ranks.placed refl all_long now g.read.body g.read.replies came g.read.spelled records found last reply5 f.replies f.came5 f.spelled fault left (λ w. e))

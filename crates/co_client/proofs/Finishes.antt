@@ -31,8 +31,9 @@ use Rattle.co_client.specs.Causes.{Search, ReadsHits, ReadsRecords, ReadsPicked,
 use Rattle.co_client.specs.Faults.{is_want}
 use Rattle.co_client.proofs.Whole_replies.{IsWholeReply, spells_well, none-all, more-all}
 use Rattle.co_client.specs.Telling.{Makes, Told}
-use Rattle.co_client.specs.Placings.{ArePlaced, shown_of, concluded}
+use Rattle.co_client.specs.Placings.{ArePlaced, shown_of}
 use Rattle.co_client.specs.Records.{records_read, picked_record, picked_read, bin_asked, hits_shown}
+use Rattle.co_client.specs.Shown.{concluded}
 use Rattle.co_client.specs.Rounds.{Comes, Ranks, RoundFails, LinkFails, keys_request, queries_request}
 use Rattle.co_client.proofs.Exchanged.{in_front}
 use Rattle.co_client.proofs.Placed.{free-rows}
@@ -311,7 +312,6 @@ module _ (run : Search) (was : Option (List Exchange)) (now : Option (List Excha
       trail-four : IsTrail s b.begun.messages rows bin run.stream (first_of b.begun.body ∷ keys_of s run.stream ∷ third ∷ fourth_of ∷ [])
       trail-four = record { requests = refl }
 
-      -- memory is wanting
       -- the round of the document gives nothing
       pub document-told : (last : Option (List Exchange)) (before : ℕ) (fault : SearchFault) (left : Stream) → RoundFails (reply_size s targets_of.Document) later last (bin_request s b.begun.messages rows bin run.stream) fault
           → LinkFails {T = Found} before run.now run.last_failed (record { target = targets_of.Document; limit = reply_limit s targets_of.Document }) (Err fault) → run.before ≤ before → Told run was last (Err fault) left

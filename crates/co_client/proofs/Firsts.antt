@@ -8,7 +8,7 @@ use Rattle.std.proofs.lemmas.List.Quantifiers.{position-Some}
 use Rattle.co_math.specs.Coefficients.{AreBelow}
 use Rattle.co_link.specs.declared.messages.Target.{Target}
 use Rattle.co_slots.specs.Payloads.{IsPayload, IsFirstNoByte}
-use Rattle.co_rounds.proofs.Retrievable.{bytes_read}
+use Rattle.co_rounds.proofs.Retrievable.{bytes_read, payload_small}
 use Rattle.co_client.specs.declared.fault.SearchFault.TheVariants.{NotByte}
 use Rattle.co_client.specs.Records.{bytes_or_fault, opened_bytes}
 
@@ -49,9 +49,9 @@ bytes-found coeffs h = step (position (λ x. eqb x 65536) coeffs) refl
         absurd (omega (arith, is, h i at.0))
 
 -- what is read of an opened reply
-pub opened-ok : (target : Target) (reply : ℕ) (coeffs bytes : List ℕ) → AreBelow 65536 coeffs → IsPayload bytes coeffs → opened_bytes target reply coeffs ≡ Ok bytes
+pub opened-ok : (target : Target) (reply : ℕ) (coeffs bytes : List ℕ) → IsPayload bytes coeffs → opened_bytes target reply coeffs ≡ Ok bytes
 unfolding opened_bytes
-opened-ok target reply coeffs bytes small payload = ap (bytes_or_fault target reply coeffs) (bytes-found coeffs small) ∙ ap (λ (x : List ℕ). Ok x) (bytes_read bytes coeffs payload)
+opened-ok target reply coeffs bytes payload = ap (bytes_or_fault target reply coeffs) (bytes-found coeffs (payload_small bytes coeffs payload)) ∙ ap (λ (x : List ℕ). Ok x) (bytes_read bytes coeffs payload)
 
 pub opened-no : (target : Target) (reply place : ℕ) (coeffs : List ℕ) → IsFirstNoByte coeffs place → opened_bytes target reply coeffs ≡ Err (NotByte target reply place)
 unfolding opened_bytes

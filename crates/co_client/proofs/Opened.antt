@@ -6,7 +6,6 @@ use Rattle.std.proofs.Math.Nat.{mul-le-mul_right}
 use Rattle.std.proofs.lemmas.List.Concat.{flat_map-cons}
 use Rattle.std.proofs.lemmas.List.{append-nil, get_or-take, get_or-drop, length-take, length-drop}
 use Rattle.std.proofs.lemmas.List.Elements.{All-get_or, All-from_get_or}
-use Rattle.co_math.specs.Coefficients.{AreBelow}
 use Rattle.co_slots.specs.Payloads.{IsPayload}
 use Rattle.co_slots.specs.Faults.{IsCause}
 use Rattle.co_slots.specs.declared.payloads.ByteFault.{ByteFault}
@@ -15,9 +14,10 @@ use Rattle.co_bfv.specs.Ciphertexts.{Ciphertext, ciphertext_degree}
 use Rattle.co_bfv.specs.Totals.{ciphertext_at, no_ciphertext}
 use Rattle.co_bfv.specs.Encryptions.{decrypted}
 use Rattle.co_pir.specs.Openings.{opened_reply, IsCauseFrom}
-use Rattle.co_pir.proofs.Revealing.{IsOpening, length-decrypted, opening-first, opening-more, opening-all, opening-whole, opening-fault}
+use Rattle.co_pir.proofs.Revealing.{IsOpening, length-decrypted, payload-append, opening-first, opening-more, opening-all, opening-fault}
 use Rattle.co_wire.specs.Bodies.{SpellsCiphers}
-use Rattle.co_client.specs.Openings.{part_of, IsPlaceBelow}
+use Rattle.co_rounds.proofs.Retrievable.{payload_small}
+use Rattle.co_client.specs.Openings.{AddsPayload, OpensTo, part_of, IsPlaceBelow}
 use Rattle.co_client.proofs.Spelled.{spelled-long}
 
 -- ---- one ciphertext
@@ -25,18 +25,10 @@ use Rattle.co_client.proofs.Spelled.{spelled-long}
 opened-single : (secret : List ℤ) (c : Ciphertext) → opened_reply secret (c ∷ []) ≡ decrypted secret c
 opened-single secret c = flat_map-cons (decrypted secret) c [] ∙ append-nil (decrypted secret c)
 
-pub at-bytes : (secret : List ℤ) (c : Ciphertext) (r : Result (List ℕ) ByteFault) → IfOk r (λ bytes. IsPayload bytes (opened_reply secret (c ∷ [])))
-    → IfOk r (λ bytes. (d : Ciphertext) → c ≡ d → IsPayload bytes (decrypted secret d))
-at-bytes secret c (Ok bytes) h = λ d e. subst (λ (x : List ℕ). IsPayload bytes x) (opened-single secret c ∙ ap (decrypted secret) e) h
-at-bytes secret c (Err fault) h = tt
-
-pub at-whole : (secret : List ℤ) (c d : Ciphertext) → c ≡ d → AreBelow 65536 (opened_reply secret (c ∷ [])) → AreBelow 65536 (decrypted secret d)
-at-whole secret c d e h = subst (λ (x : List ℕ). AreBelow 65536 x) (opened-single secret c ∙ ap (decrypted secret) e) h
-
-pub at-fault : (secret : List ℤ) (c : Ciphertext) (r : Result (List ℕ) ByteFault) → IfErr r (IsCause (opened_reply secret (c ∷ [])))
-    → IfErr r (λ fault. (d : Ciphertext) → c ≡ d → IsCause (decrypted secret d) fault)
-at-fault secret c (Ok bytes) h = tt
-at-fault secret c (Err fault) h = λ d e. subst (λ (x : List ℕ). IsCause x fault) (opened-single secret c ∙ ap (decrypted secret) e) h
+pub at-opened : (n : ℕ) (secret : List ℤ) (body : List ℕ) (at : ℕ) (c : Ciphertext) (r : Result (List ℕ) ByteFault) → ((cs : List Ciphertext) (count : ℕ) → SpellsCiphers n count cs body → c ≡ ciphertext_at cs at)
+    → IfOk r (λ bytes. IsPayload bytes (opened_reply secret (c ∷ []))) → IfErr r (IsCause (opened_reply secret (c ∷ []))) → OpensTo n body (λ cs. decrypted secret (ciphertext_at cs at)) r
+at-opened n secret body at c (Ok bytes) is h f = λ cs count s. subst (λ (x : List ℕ). IsPayload bytes x) (opened-single secret c ∙ ap (decrypted secret) (is cs count s)) h
+at-opened n secret body at c (Err fault) is h f = λ cs count s. subst (λ (x : List ℕ). IsCause x fault) (opened-single secret c ∙ ap (decrypted secret) (is cs count s)) f
 
 place-below : (n : ℕ) (secret : List ℤ) (c : Ciphertext) (fault : ByteFault) → ciphertext_degree c ≡ n → IsCause (opened_reply secret (c ∷ [])) fault → IsPlaceBelow n fault
 place-below n secret c (NotByte place) e h = omega (arith, h.within, ap length (opened-single secret c), length-decrypted secret c, e)
@@ -89,23 +81,21 @@ module _ (n : ℕ) (secret : List ℤ) (body : List ℕ) (from count : ℕ) (pos
   opened-none bytes e cs all h = opening-first secret (part_of from count cs) bytes e
 
   pub opened-more : (chunk : ℕ) (bytes next : List ℕ) → chunk < count → IsOpenedTo n secret body from count chunk bytes
-      → ((cs : List Ciphertext) (all : ℕ) (coeffs : List ℕ) → SpellsCiphers n all cs body → IsPayload bytes coeffs → IsPayload next (coeffs ++ decrypted secret (ciphertext_at cs (from + chunk))))
-      → ((cs : List Ciphertext) (all : ℕ) → SpellsCiphers n all cs body → AreBelow 65536 (decrypted secret (ciphertext_at cs (from + chunk))))
+      → ((cs : List Ciphertext) (all : ℕ) → SpellsCiphers n all cs body → AddsPayload bytes next (decrypted secret (ciphertext_at cs (from + chunk))))
       → IsOpenedTo n secret body from count (chunk + 1) next
-  opened-more chunk bytes next l h f g cs all s =
+  opened-more chunk bytes next l h f cs all s =
       let fits = part-within n all from count cs body positive s room in
       let long = part-long from count cs fits in
-      opening-more secret (part_of from count cs) chunk (ciphertext_at cs (from + chunk)) bytes next (h cs all s) (omega (arith, long)) (sym (part-at from count cs chunk l)) (λ coeffs. f cs all coeffs s) (g cs all s)
+      let c = ciphertext_at cs (from + chunk) in
+      let adds = f cs all s in
+      opening-more secret (part_of from count cs) chunk c bytes next (h cs all s) (omega (arith, long)) (sym (part-at from count cs chunk l))
+      (λ coeffs payload. subst (λ (x : List ℕ). IsPayload x (coeffs ++ decrypted secret c)) (sym adds.added) (payload-append bytes adds.piece coeffs (decrypted secret c) payload adds.payload))
+      (payload_small adds.piece (decrypted secret c) adds.payload)
 
   pub opened-all : (chunk : ℕ) (bytes : List ℕ) → count ≤ chunk → IsOpenedTo n secret body from count chunk bytes → (cs : List Ciphertext) (all : ℕ) → SpellsCiphers n all cs body → IsPayload bytes (opened_reply secret (part_of from count cs))
   opened-all chunk bytes l h cs all s =
       let long = part-long from count cs (part-within n all from count cs body positive s room) in
       opening-all secret (part_of from count cs) chunk bytes (h cs all s) (omega (arith, long))
-
-  pub opened-whole : (chunk : ℕ) (bytes : List ℕ) → count ≤ chunk → IsOpenedTo n secret body from count chunk bytes → (cs : List Ciphertext) (all : ℕ) → SpellsCiphers n all cs body → AreBelow 65536 (opened_reply secret (part_of from count cs))
-  opened-whole chunk bytes l h cs all s =
-      let long = part-long from count cs (part-within n all from count cs body positive s room) in
-      opening-whole secret (part_of from count cs) chunk bytes (h cs all s) (omega (arith, long))
 
   pub opened-fault : (chunk : ℕ) (bytes : List ℕ) (fault : ByteFault) → chunk < count → IsOpenedTo n secret body from count chunk bytes
       → ((cs : List Ciphertext) (all : ℕ) → SpellsCiphers n all cs body → IsCauseFrom (chunk * n) (decrypted secret (ciphertext_at cs (from + chunk))) fault)

@@ -32,7 +32,6 @@ use Rattle.co_rounds.specs.Placing.{choices_of, no_hit, document_at, document_ro
 use Rattle.co_rounds.specs.Recording.{ShowsDocument, AsksFor, bucket_replies}
 use Rattle.co_rounds.proofs.Rounds.{record_round}
 use Rattle.co_rounds.proofs.Recorded.{shows_document}
-use Rattle.co_rounds.proofs.Retrievable.{payload_small}
 use Rattle.co_client.specs.declared.fault.SearchFault.{SearchFault}
 use Rattle.co_client.specs.declared.fault.SearchFault.TheVariants.{WrongRecord, BadPlace}
 use Rattle.co_client.specs.Causes.{Search, Answered, ReadsHits, ReadsRecords}
@@ -149,7 +148,7 @@ module _ {documents : List Document} {settings : Settings} {l : Parts} {held : O
       let payload : IsPayload (row_bytes (bucket_table l bucket) row) (opened_reply secret (bucket_replies l.shape replies bucket)) =
       record_round l secret h.asks.asked.keys (can h) (keys_bytes h.asks.asked.keys) (spelled h) h.asks.asked.records (ciphers_bytes h.asks.asked.records) queries_spelled
       a.body (round h _ _ Meta replies a 1 (ciphers_bytes h.asks.asked.records) refl refl) replies a.spelled bucket row b asks in
-      opened-ok Meta bucket (opened_reply secret (bucket_replies l.shape replies bucket)) (row_bytes (bucket_table l bucket) row) (payload_small _ _ payload) payload
+      opened-ok Meta bucket (opened_reply secret (bucket_replies l.shape replies bucket)) (row_bytes (bucket_table l bucket) row) payload
 
   one_read : (rank : ℕ) → rank < length hits → IsReadAt documents l (secret_draw l.shape.degree r.stream).0 replies placed rank (get_or hits rank no_hit)
   unfolding record_read

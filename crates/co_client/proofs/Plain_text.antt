@@ -29,7 +29,6 @@ use Rattle.co_library.specs.Libraries.{Parts}
 use Rattle.co_rounds.specs.Serving.{bin_table}
 use Rattle.co_rounds.specs.Recording.{AsksFor, is_within_bins}
 use Rattle.co_rounds.proofs.Rounds.{document_round}
-use Rattle.co_rounds.proofs.Retrievable.{payload_small}
 use Rattle.co_client.specs.declared.fault.SearchFault.{SearchFault}
 use Rattle.co_client.specs.Causes.{Search, Answered, ReadsRecords, ReadsPicked}
 use Rattle.co_client.specs.Records.{◌>>=◌, opened_bytes, text_read, picked_read, bin_asked}
@@ -62,7 +61,7 @@ module _ {documents : List Document} {settings : Settings} {l : Parts} {held : O
       document_round l secret h.asks.asked.keys (can h) (keys_bytes h.asks.asked.keys) (spelled h) query (ciphers_bytes h.asks.asked.document)
       (document_spelled l.shape (has h) (has_room h) (numbers_of l.terms (distinct r.query)) h.asks.rows h.asks.bin r.stream h.asks.asked h.asks.rest h.asks.drawn)
       a.body (round h _ _ ForDocument replies a 2 (ciphers_bytes h.asks.asked.document) refl refl) replies a.spelled h.asks.bin asks in
-      opened-ok ForDocument 0 (opened_reply secret replies) (row_bytes (bin_table l) h.asks.bin) (payload_small _ _ payload) payload
+      opened-ok ForDocument 0 (opened_reply secret replies) (row_bytes (bin_table l) h.asks.bin) payload
 
   -- the text at the place that a record names
   text_plain : (x : Ranked) (rec : Record) (of_hit : IsRecordOf documents l x rec) → h.asks.bin ≡ rec.place.bin → text_read secret replies rec.place ≡ Ok of_hit.document.text

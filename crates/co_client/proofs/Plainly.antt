@@ -294,10 +294,8 @@ search_plain documents settings l held r es (Err (Refused target status)) left l
 search_plain documents settings l held r es (Err (BadReply target place)) left library honest follows goes asks read refused = no_bad_reply documents settings l held r es library honest follows goes (Err (BadReply target place)) left asks target place refused
 search_plain documents settings l held r es (Err (WrongRecord wanted other)) left library honest follows goes asks read refused = no_bad_record documents settings l held r es library honest follows goes (Err (WrongRecord wanted other)) left asks (WrongRecord wanted other) refused
 search_plain documents settings l held r es (Err (BadPlace document)) left library honest follows goes asks read refused = no_bad_record documents settings l held r es library honest follows goes (Err (BadPlace document)) left asks (BadPlace document) refused
-search_plain documents settings l held r es (Err (NotByte Public reply place)) left library honest follows goes asks read refused = absurd refused
-search_plain documents settings l held r es (Err (NotByte ForKeys reply place)) left library honest follows goes asks read refused = absurd refused
-search_plain documents settings l held r es (Err (NotByte Score reply place)) left library honest follows goes asks read refused = absurd refused
 search_plain documents settings l held r es (Err (NotByte Meta reply place)) left library honest follows goes asks read refused = no_bad_record documents settings l held r es library honest follows goes (Err (NotByte Meta reply place)) left asks (NotByte Meta reply place) refused
 search_plain documents settings l held r es (Err (NotByte ForDocument reply place)) left library honest follows goes asks read refused = no_bad_text documents settings l held r es library honest follows goes (Err (NotByte ForDocument reply place)) left asks (NotByte ForDocument reply place) refused
+search_plain documents settings l held r es (Err (NotByte target reply place)) left library honest follows goes asks read refused = absurd refused
 search_plain documents settings l held r es (Err (BadRecord document place)) left library honest follows goes asks read refused = no_bad_record documents settings l held r es library honest follows goes (Err (BadRecord document place)) left asks (BadRecord document place) refused
 search_plain documents settings l held r es (Err OutOfMemory) left library honest follows goes asks read refused = tt

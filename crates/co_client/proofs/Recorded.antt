@@ -62,6 +62,11 @@ asked-rows s hits placed refused places p e =
 
 -- ---- the exchange
 
+-- what is read of bytes
+abbrev pub Read : ReaderState → Ranked → ℕ → List ℕ → Result (List Record) SearchFault → Type 0
+Read reader ranked bins bytes result = (cs : List Ciphertext) (all : ℕ) → SpellsCiphers reader.shape.degree all cs bytes
+    → IsReadAs result (records_read (with_bins reader.shape bins) reader.secret cs ranked.buckets 0 (shown_of ranked.refused ranked.hits))
+
 module _ (reader : ReaderState) (ranked : Ranked) (bins : ℕ) (was now : Option (List Exchange)) (stream : Stream) where
   -- what no round finds is found in the records
   pub round-fails : (fault : SearchFault) → RoundFails (reply_size reader.shape Meta) was now (records_request reader ranked stream) fault → RecordsFail reader ranked bins was now stream fault
@@ -89,31 +94,29 @@ module _ (reader : ReaderState) (ranked : Ranked) (bins : ℕ) (was now : Option
     reads : (records : Result (List Record) SearchFault) → records_read (with_bins reader.shape bins) reader.secret gives.spelled.ciphers ranked.buckets 0 (shown_of ranked.refused ranked.hits) ≡ records → ReadsReplies reader ranked bins was now stream records
     reads records e = record { body = body; comes = gives.comes; replies = gives.spelled.ciphers; spelled = gives.spelled.spelled; are = sym e }
 
-    -- what is read of the replies
-    abbrev pub Read : Result (List Record) SearchFault → Type 0
-    Read result = (cs : List Ciphertext) (all : ℕ) → SpellsCiphers reader.shape.degree all cs body → IsReadAs result (records_read (with_bins reader.shape bins) reader.secret cs ranked.buckets 0 (shown_of ranked.refused ranked.hits))
+    -- what is read of the replies that came
+    here : (result : Result (List Record) SearchFault) → Read reader ranked bins body result → IsReadAs result (records_read (with_bins reader.shape bins) reader.secret gives.spelled.ciphers ranked.buckets 0 (shown_of ranked.refused ranked.hits))
+    here result h = h gives.spelled.ciphers (bucket_count reader.shape.hits * record_chunks reader.shape.degree) gives.spelled.spelled
 
-    pub records-read : (result : Result (List Record) SearchFault) → Read result → IfOk result (λ records. ReadsReplies reader ranked bins was now stream (Ok records))
-    records-read (Ok records) h = reads (Ok records) (h gives.spelled.ciphers (bucket_count reader.shape.hits * record_chunks reader.shape.degree) gives.spelled.spelled)
+    pub records-read : (result : Result (List Record) SearchFault) → Read reader ranked bins body result → IfOk result (λ records. ReadsReplies reader ranked bins was now stream (Ok records))
+    records-read (Ok records) h = reads (Ok records) (here (Ok records) h)
     records-read (Err fault) h = tt
 
-    pub records-fail : (result : Result (List Record) SearchFault) → Read result → IfErr result (RecordsFail reader ranked bins was now stream)
+    pub records-fail : (result : Result (List Record) SearchFault) → Read reader ranked bins body result → IfErr result (RecordsFail reader ranked bins was now stream)
     records-fail (Ok records) h = tt
     records-fail (Err fault) h =
         ⊎_elim (λ e. subst (λ (f : SearchFault). RecordsFail reader ranked bins was now stream f) (sym e) (memory-round (reply_size reader.shape Meta) was now (records_request reader ranked stream) body gives.comes))
         (λ w.
-        let is = h gives.spelled.ciphers (bucket_count reader.shape.hits * record_chunks reader.shape.degree) gives.spelled.spelled w in
-        found-fails (read-fault (with_bins reader.shape bins) reader.secret gives.spelled.ciphers ranked.buckets (shown_of ranked.refused ranked.hits) fault is) (reads (Err fault) is))
+        found-fails (read-fault (with_bins reader.shape bins) reader.secret gives.spelled.ciphers ranked.buckets (shown_of ranked.refused ranked.hits) fault (here (Err fault) h w)) (reads (Err fault) (here (Err fault) h w)))
         (want-or-not fault)
 
     -- no fault of the records is the link's
-    pub link-fails : (before after : ℕ) (is : Option LinkCall) (call : LinkCall) (result : Result (List Record) SearchFault) → before ≤ after → Read result → LinkFails before after is call result
+    pub link-fails : (before after : ℕ) (is : Option LinkCall) (call : LinkCall) (result : Result (List Record) SearchFault) → before ≤ after → Read reader ranked bins body result → LinkFails before after is call result
     link-fails before after is call result later h = record {
       later = later;
       failed = λ e.
-          let read = subst (λ (r : Result (List Record) SearchFault). Read r) e h in
-          let is = read gives.spelled.ciphers (bucket_count reader.shape.hits * record_chunks reader.shape.degree) gives.spelled.spelled refl in
-          absurd (not-link (read-fault (with_bins reader.shape bins) reader.secret gives.spelled.ciphers ranked.buckets (shown_of ranked.refused ranked.hits) Link is));
+          let found = here (Err Link) (subst (λ (r : Result (List Record) SearchFault). Read reader ranked bins body r) e h) refl in
+          absurd (not-link (read-fault (with_bins reader.shape bins) reader.secret gives.spelled.ciphers ranked.buckets (shown_of ranked.refused ranked.hits) Link found));
     }
 
 pub on-ok : {P : Type 0} (result : Result (List Record) SearchFault) → P → OnOk result P

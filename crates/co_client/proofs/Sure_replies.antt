@@ -11,14 +11,12 @@ use Rattle.rand_core.specs.Stream.{Stream}
 use Rattle.co_link.specs.declared.messages.Target.TheVariants.{Score, Meta, Document as ForDocument}
 use Rattle.co_link.specs.declared.messages.Exchange.{Exchange}
 use Rattle.co_link.specs.Exchanges.{exchange_of}
-use Rattle.co_math.specs.Parameters.{q, plain_modulus, fresh_bound}
+use Rattle.co_math.specs.Parameters.{q, plain_modulus}
 use Rattle.co_math.specs.Residues.{residue}
-use Rattle.co_math.specs.Polynomials.{IsWrapped}
 use Rattle.co_math.specs.Coefficients.{coefficients, signed_coefficients, AreBelow, AreResidues}
 use Rattle.co_math.specs.Logarithms.{log2_up}
 use Rattle.co_math.proofs.Residues.{residue_small}
 use Rattle.co_math.proofs.Terms.{coefficient-low}
-use Rattle.co_ring.specs.Polynomials.{polynomial_of}
 use Rattle.co_noise.specs.Shapes.{Numbers, levels, keyword_blocks as keyword_blocks_of, document_blocks}
 use Rattle.co_noise.specs.Bounds.{score_bound, retrieve_bound, test_of}
 use Rattle.co_bfv.specs.Secrets.{IsTernary}
@@ -32,14 +30,11 @@ use Rattle.co_switch.specs.Keys.{Keys}
 use Rattle.co_matvec.specs.Weights.{numbers_of, keyword_blocks}
 use Rattle.co_matvec.specs.Replies.{CanScore, AreKeywords, AreScoreReplies}
 use Rattle.co_matvec.proofs.Lawful.{replies_show}
-use Rattle.co_pir.specs.Messages.{query_polynomial}
 use Rattle.co_pir.specs.Tables.{Table, IsTable, piece, payload, row_bytes}
-use Rattle.co_pir.specs.Meanings.{AsksRow, CanRetrieve, MeansBytes}
 use Rattle.co_pir.specs.Expansions.{expanded}
 use Rattle.co_pir.specs.Replies.{retrieved}
 use Rattle.co_pir.proofs.Replied.{length-payload}
 use Rattle.co_pir.proofs.Gathering.{length-table_reply, table_reply-degrees}
-use Rattle.co_pir.proofs.Retrieved.{retrieved_means}
 use Rattle.co_bucket.specs.Lists.{bucket_count, candidates_of}
 use Rattle.co_bucket.specs.Bytes.{record_chunks}
 use Rattle.co_bucket.specs.Placement.{IsPlacement}
@@ -64,7 +59,7 @@ use Rattle.co_rounds.specs.Placing.{choices_of, no_hit, document_at, row_asked}
 use Rattle.co_rounds.specs.Recording.{IsLibraryFor, CanBeOpened, AsksFor, ShowsDocument}
 use Rattle.co_rounds.proofs.Rounds.{honest_done, held_are, scores-ciphers, gathered-ciphers, retrieved-ciphers}
 use Rattle.co_rounds.proofs.Recorded.{shows_document}
-use Rattle.co_rounds.proofs.Retrievable.{is-bucket_table, is-bin_table, gathered-at}
+use Rattle.co_rounds.proofs.Retrievable.{is-bucket_table, is-bin_table, gathered-at, table_means}
 use Rattle.co_rounds.proofs.Weighing.{bounds_agree, weights_small}
 use Rattle.co_client.specs.declared.fault.SearchFault.{SearchFault}
 use Rattle.co_client.specs.Causes.{Search, Publishes, Answered, ReadsHits, ReadsRecords, Asks}
@@ -109,23 +104,7 @@ payload-below n bytes h k u =
 table_sure : (l : Parts) (secret : List ℤ) (keys : Keys) → CanBeOpened l secret keys → (t : Table) (query : Ciphertext) (row : ℕ) → IsTable t → t.degree ≡ l.shape.degree → log2_up t.rows ≤ length keys.expansions
     → 2 * retrieve_bound t.degree t.rows < q → AsksFor l.shape.degree secret query t.rows row → All (IsSure secret) (retrieved t keys query)
 table_sure l secret keys h t query row table degree enough fits asks =
-    let s = signed_coefficients secret in
-    let wrapped : IsWrapped l.shape.degree s = subst (λ (n : ℕ). IsWrapped n s) h.degree (secret-IsTernary secret h.is_secret).wrapped in
-    let able : CanRetrieve t keys query = record {
-      table = table;
-      key_set = h.keys_for.set;
-      whole = asks.cipher;
-      query_degree = asks.degree ∙ sym degree;
-      keys_of_degree = h.keys_for.degree ∙ sym degree;
-      enough_keys = enough;
-    } in
-    let asks_row : AsksRow s keys query t.rows row = record {
-      secret = subst (λ (k : ℕ). IsWrapped k s) (sym asks.degree) wrapped;
-      good = h.good.expansions;
-      within = asks.within;
-      asks = subst (λ (k : ℕ). MeansWithin s query (polynomial_of (query_polynomial k t.rows row)) fresh_bound) (sym asks.degree) asks.fresh;
-    } in
-    let shown : MeansBytes t.degree s (retrieved t keys query) (row_bytes t row) (retrieve_bound t.degree t.rows) = retrieved_means t keys query able s row asks_row in
+    let shown = table_means l secret keys h t query row table degree enough asks in
     let bytes : (c : ℕ) → IsBytes (piece (2 * t.degree) c (row_bytes t row)) =
     λ c. IsBytes-take (2 * t.degree) (drop (c * (2 * t.degree)) (row_bytes t row)) (IsBytes-drop (c * (2 * t.degree)) (row_bytes t row) (all_bytes (row_bytes t row) shown.below)) in
     All-from_get_or (IsSure secret) (retrieved t keys query) no_ciphertext

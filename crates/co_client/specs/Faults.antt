@@ -1,5 +1,6 @@
 -- Answers that are read as wanted.
 use Rattle.std.specs.Prelude.{◌≡◌, ◌<◌, ◌≤◌, ℕ, min, Bool, true, false, Result, Ok, Err}
+use Rattle.co_text.specs.declared.limits.TheConstants.{MAX_KEYWORDS}
 use Rattle.co_client.specs.declared.fault.SearchFault.{SearchFault}
 use Rattle.co_client.specs.declared.fault.SearchFault.TheVariants.{TooManyKeywords, OutOfMemory}
 
@@ -13,15 +14,17 @@ abbrev pub IsReadAs : {X : Type 0} → Result X SearchFault → Result X SearchF
 IsReadAs (Ok x) wanted = wanted ≡ Ok x
 IsReadAs (Err fault) wanted = is_want fault ≡ false → wanted ≡ Err fault
 
--- the fault of a query with so many terms: more than 16, told up to the greatest number of 32 bits; want of memory is
--- free
+-- the fault of a query with so many terms: more than are answered, told up to the greatest number
+-- of 32 bits; want of memory is free
 abbrev pub IsManyTerms : ℕ → SearchFault → Type 0
-IsManyTerms number (TooManyKeywords found) = (16 < number) × (found ≡ min number 4294967295)
+IsManyTerms number (TooManyKeywords found) =
+    (MAX_KEYWORDS < number) × (found ≡ min number 4294967295)
 IsManyTerms number OutOfMemory = Unit {0}
 IsManyTerms number fault = ⊥
 
--- an answer for so many terms: each but that there are too many, and want of memory, comes only for at most 16
+-- an answer for so many terms: each but that there are too many, and want of memory, comes only for
+-- few
 abbrev pub IsForFew : {X : Type 0} → ℕ → Result X SearchFault → Type 0
 IsForFew number (Err (TooManyKeywords found)) = Unit {0}
 IsForFew number (Err OutOfMemory) = Unit {0}
-IsForFew number result = number ≤ 16
+IsForFew number result = number ≤ MAX_KEYWORDS

@@ -22,33 +22,57 @@ use Rattle.co_client.specs.Rounds.{ReaderState, Comes, RoundFails, queries_reque
 
 -- the numbers with so many bins, for the measure of a place
 abbrev pub with_bins : Numbers → ℕ → Numbers
-with_bins s bins = record { degree = s.degree; documents = s.documents; terms = s.terms; hits = s.hits; salt = s.salt; rows = s.rows; bins = bins; chunks = s.chunks }
+with_bins s bins =
+    record {
+      degree = s.degree;
+      documents = s.documents;
+      terms = s.terms;
+      hits = s.hits;
+      salt = s.salt;
+      rows = s.rows;
+      bins = bins;
+      chunks = s.chunks;
+    }
 
--- the messages that ask for the records of hits: in each bucket for the row of the hit that is placed there, else for the
--- first
+-- the messages that ask for the records of hits: in each bucket for the row of the hit that is
+-- placed there, else for the first
 abbrev pub hits_messages : Numbers → Ranked → List (List ℕ)
 hits_messages s ranked = record_messages s (rows_asked s ranked.hits ranked.buckets)
 
 -- the request that asks for them
 abbrev pub records_request : ReaderState → Ranked → Stream → Request
-records_request reader ranked stream = queries_request Meta reader.secret (hits_messages reader.shape ranked) stream
+records_request reader ranked stream =
+    queries_request Meta reader.secret (hits_messages reader.shape ranked) stream
 
 -- what its draws leave
 abbrev pub records_rest : ReaderState → Ranked → Stream → Stream
-records_rest reader ranked stream = queries_rest reader.secret (hits_messages reader.shape ranked) stream
+records_rest reader ranked stream =
+    queries_rest reader.secret (hits_messages reader.shape ranked) stream
 
--- the exchange gave the replies of the buckets, and of these the records of the hits are read by rank, or the first fault
-pub record ReadsReplies (reader : ReaderState) (ranked : Ranked) (bins : ℕ) (was now : Option (List Exchange)) (stream : Stream) (records : Result (List Record) SearchFault) : Type 0 where
+-- the exchange gave the replies of the buckets, and of these the records of the hits are read by
+-- rank, or the first fault
+pub record ReadsReplies (reader : ReaderState) (ranked : Ranked) (bins : ℕ)
+    (was now : Option (List Exchange)) (stream : Stream)
+    (records : Result (List Record) SearchFault) : Type 0 where
   pub body : List ℕ
   pub comes : Comes was now (records_request reader ranked stream) (reply_with 200 body)
   pub replies : List Ciphertext
-  pub spelled : SpellsCiphers reader.shape.degree (bucket_count reader.shape.hits * record_chunks reader.shape.degree) replies body
-  pub are : records ≡ records_read (with_bins reader.shape bins) reader.secret replies ranked.buckets 0 (shown_of ranked.refused ranked.hits)
+  pub spelled : SpellsCiphers reader.shape.degree
+      (bucket_count reader.shape.hits * record_chunks reader.shape.degree) replies body
+  pub are : records ≡ records_read (with_bins reader.shape bins) reader.secret replies
+      ranked.buckets 0 (shown_of ranked.refused ranked.hits)
 
--- what the round tells where it gives no records: the first fault of those that came, or that of any round
-abbrev pub RecordsFail : ReaderState → Ranked → ℕ → Option (List Exchange) → Option (List Exchange) → Stream → SearchFault → Type 0
-RecordsFail reader ranked bins was now stream (NotByte target reply place) = ReadsReplies reader ranked bins was now stream (Err (NotByte target reply place))
-RecordsFail reader ranked bins was now stream (BadRecord document place) = ReadsReplies reader ranked bins was now stream (Err (BadRecord document place))
-RecordsFail reader ranked bins was now stream (WrongRecord wanted found) = ReadsReplies reader ranked bins was now stream (Err (WrongRecord wanted found))
-RecordsFail reader ranked bins was now stream (BadPlace document) = ReadsReplies reader ranked bins was now stream (Err (BadPlace document))
-RecordsFail reader ranked bins was now stream fault = RoundFails (reply_size reader.shape Meta) was now (records_request reader ranked stream) fault
+-- what the round tells where it gives no records: the first fault of those that came, or that of
+-- any round
+abbrev pub RecordsFail : ReaderState → Ranked → ℕ → Option (List Exchange) → Option (List Exchange)
+    → Stream → SearchFault → Type 0
+RecordsFail reader ranked bins was now stream (NotByte target reply place) =
+    ReadsReplies reader ranked bins was now stream (Err (NotByte target reply place))
+RecordsFail reader ranked bins was now stream (BadRecord document place) =
+    ReadsReplies reader ranked bins was now stream (Err (BadRecord document place))
+RecordsFail reader ranked bins was now stream (WrongRecord wanted found) =
+    ReadsReplies reader ranked bins was now stream (Err (WrongRecord wanted found))
+RecordsFail reader ranked bins was now stream (BadPlace document) =
+    ReadsReplies reader ranked bins was now stream (Err (BadPlace document))
+RecordsFail reader ranked bins was now stream fault =
+    RoundFails (reply_size reader.shape Meta) was now (records_request reader ranked stream) fault

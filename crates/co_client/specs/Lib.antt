@@ -9,5 +9,6 @@ pub mod Rounds
 pub mod Openings
 pub mod Placings
 pub mod Gathered
+pub mod Shown
 pub mod Published
 pub mod Sure

@@ -19,7 +19,8 @@ abbrev pub public_request : Request
 public_request = record { target = Public; body = [] }
 
 -- the exchange published these numbers and terms
-pub record IsPublic (was now : Option (List Exchange)) (s : Numbers) (terms : List (List ℕ)) : Type 0 where
+pub record IsPublic (was now : Option (List Exchange)) (s : Numbers) (terms : List (List ℕ))
+    : Type 0 where
   pub body : List ℕ
   pub comes : Comes was now public_request (reply_with 200 body)
   pub read : public_of body ≡ Ok (s, terms)
@@ -37,7 +38,7 @@ pub record RefusesPublic (was now : Option (List Exchange)) (place : ℕ) : Type
   pub bad : public_of body ≡ Err place
 
 -- the numbers fail the test
-pub record FailsTest (was now : Option (List Exchange)) (fault : TestFault) : Type 0 where
+pub record TestFails (was now : Option (List Exchange)) (fault : TestFault) : Type 0 where
   pub shape : Numbers
   pub terms : List (List ℕ)
   pub public : IsPublic was now shape terms
@@ -53,7 +54,7 @@ pub record ComesPublic (was now : Option (List Exchange)) : Type 0 where
 abbrev pub PublicFails : Option (List Exchange) → Option (List Exchange) → SearchFault → Type 0
 PublicFails was now (Refused target status) = RefusesStatus was now public_request target status
 PublicFails was now (BadPublic place) = RefusesPublic was now place
-PublicFails was now (Test fault) = FailsTest was now fault
+PublicFails was now (Test fault) = TestFails was now fault
 PublicFails was now Link = ComesNone was now
 PublicFails was now OutOfMemory = ComesNone was now ⊎ ComesPublic was now
 PublicFails was now fault = ⊥

@@ -19,18 +19,21 @@ Makes None now es = now ≡ None
 Makes (Some old) now es = now ≡ Some (old ++ es)
 
 -- all that a search tells of its exchanges
-pub record Tells (run : Search) (es : List Exchange) (result : Result Found SearchFault) (left : Stream) : Type 0 where
+pub record Tells (run : Search) (es : List Exchange) (result : Result Found SearchFault)
+    (left : Stream) : Type 0 where
   pub follows : FollowsPlan es
   pub whole : IsAnswered result → IsWholePlan es
   pub read : IfOk result (IsRead run es)
   pub refused : IfErr result (IsCause run es)
-  pub asked : (s : Numbers) (ts : List (List ℕ)) → Publishes es s ts → test_of s ≡ Ok s → Asks run es s ts result left
+  pub asked : (s : Numbers) (ts : List (List ℕ)) → Publishes es s ts → test_of s ≡ Ok s
+      → Asks run es s ts result left
   pub goes : GoesOn run es
   pub few : IsForFew (length (distinct run.query)) result
   pub earlier : EndsFirst run es result
 
 -- a search made these exchanges, and tells all of them
-pub record Told (run : Search) (was now : Option (List Exchange)) (result : Result Found SearchFault) (left : Stream) : Type 0 where
+pub record Told (run : Search) (was now : Option (List Exchange))
+    (result : Result Found SearchFault) (left : Stream) : Type 0 where
   pub exchanges : List Exchange
   pub makes : Makes was now exchanges
   pub tells : Tells run exchanges result left

@@ -1,6 +1,6 @@
 //! One exchange of a search.
 
-ghost use Rattle.std.specs.Prelude.{◌≡◌, ◌≤◌, true, IfOk, IfErr};
+ghost use Rattle.std.specs.Prelude.{◌≡◌, true, IfOk, IfErr};
 ghost use Rattle.co_rounds.specs.Answers.{reply_with};
 ghost use Rattle.co_math.specs.Coefficients.{AreBelow};
 ghost use Rattle.co_client.specs.Rounds.{Comes, AskFails, LinkFails};
@@ -26,9 +26,13 @@ pub(crate) fn ask<K: Link>(
     limit: u64,
 ) -> Result<Bytes, SearchFault>
     requires { K.is_ready link.old ≡ true }
-    ensures came { IfOk result (λ reply. Comes (K.exchanges link.old) (K.exchanges link.new) (record { target = target; body = body }) (reply_with 200 reply)) }
-    ensures refused { IfErr result (AskFails (K.exchanges link.old) (K.exchanges link.new) (record { target = target; body = body })) }
-    ensures cause { LinkFails (K.faults link.old) (K.faults link.new) (K.last_failed link.new) (record { target = target; limit = limit }) result }
+    ensures came { IfOk result (λ reply. Comes (K.exchanges link.old) (K.exchanges link.new)
+        (record { target = target; body = body }) (reply_with 200 reply)) }
+    ensures refused { IfErr result
+        (AskFails (K.exchanges link.old) (K.exchanges link.new)
+        (record { target = target; body = body })) }
+    ensures cause { LinkFails (K.faults link.old) (K.faults link.new) (K.last_failed link.new)
+        (record { target = target; limit = limit }) result }
     ensures ready { K.is_ready link.new ≡ true }
     ensures beside { K.beside link.new ≡ K.beside link.old }
 {

@@ -1,13 +1,13 @@
 //! The round of the document.
 
-ghost use Rattle.std.specs.Prelude.{◌≡◌, ◌+◌, ◌*◌, ◌<◌, ◌≤◌, true, ℕ, List, Option, length, All, IfOk, IfErr, OnOk};
+ghost use Rattle.std.specs.Prelude.{◌≡◌, ◌+◌, ◌<◌, ◌≤◌, true, List, Option, length, All, IfOk, IfErr, OnOk};
 ghost use Rattle.co_link.specs.declared.messages.Target.TheVariants as targets;
 ghost use Rattle.co_bfv.specs.Ciphertexts.{Ciphertext};
 ghost use Rattle.co_wire.specs.Bodies.{SpellsCiphers, ciphers_bytes};
-ghost use Rattle.co_wire.specs.Lengths.{reply_size, reply_limit};
+ghost use Rattle.co_wire.specs.Lengths.{reply_size};
 ghost use Rattle.co_rounds.specs.Asked.{encryptions_draw};
 ghost use Rattle.co_rounds.specs.Recording.{is_within_bins};
-ghost use Rattle.co_client.specs.Rounds.{RoundFails, LinkFails, Gives, queries_request, queries_rest, bin_messages};
+ghost use Rattle.co_client.specs.Rounds.{round_call, RoundFails, LinkFails, Gives, queries_request, queries_rest, bin_messages};
 ghost use Rattle.co_client.specs.Records.{text_read, picked_record, picked_read, bin_asked};
 ghost use Rattle.co_client.specs.Faults.{IsReadAs};
 
@@ -30,8 +30,13 @@ fn bin_query<R: Rng>(
     rng: &mut R,
 ) -> Result<Bytes, AllocError>
     requires { bin < reader.now.shape.bins }
-    ensures body { IfOk result (λ body. body ≡ ciphers_bytes (encryptions_draw reader.now.secret (bin_messages reader.now.shape bin) (R.stream rng.old)).0) }
-    ensures rest { OnOk result (R.stream rng.new ≡ queries_rest reader.now.secret (bin_messages reader.now.shape bin) (R.stream rng.old)) }
+    ensures body { IfOk result
+        (λ body. body
+        ≡ ciphers_bytes (encryptions_draw reader.now.secret (bin_messages reader.now.shape bin)
+        (R.stream rng.old)).0) }
+    ensures rest { OnOk result
+        (R.stream rng.new ≡ queries_rest reader.now.secret (bin_messages reader.now.shape bin)
+        (R.stream rng.old)) }
 {
     let bins = reader.tested().shape().bins();
     let room = request_length(reader.tested(), Target::Document);
@@ -51,18 +56,25 @@ pub fn fetch<K: Link, R: Rng>(
 ) -> Result<Bytes, SearchFault>
     requires ready { K.is_ready link.old ≡ true }
     requires bin { bin < reader.now.shape.bins }
-    ensures came { IfOk result (Gives reader.now.shape.degree reader.now.shape.chunks (K.exchanges link.old) (K.exchanges link.new)
-        (queries_request targets.Document reader.now.secret (bin_messages reader.now.shape bin) (R.stream rng.old))) }
-    ensures rest { OnOk result (R.stream rng.new ≡ queries_rest reader.now.secret (bin_messages reader.now.shape bin) (R.stream rng.old)) }
-    ensures refused { IfErr result (RoundFails (reply_size reader.now.shape targets.Document) (K.exchanges link.old) (K.exchanges link.new)
-        (queries_request targets.Document reader.now.secret (bin_messages reader.now.shape bin) (R.stream rng.old))) }
-    ensures cause { LinkFails (K.faults link.old) (K.faults link.new) (K.last_failed link.new) (record { target = targets.Document; limit = reply_limit reader.now.shape targets.Document }) result }
+    ensures came { IfOk result
+        (Gives reader.now.shape.degree reader.now.shape.chunks (K.exchanges link.old)
+        (K.exchanges link.new)
+        (queries_request targets.Document reader.now.secret (bin_messages reader.now.shape bin)
+        (R.stream rng.old))) }
+    ensures rest { OnOk result
+        (R.stream rng.new ≡ queries_rest reader.now.secret (bin_messages reader.now.shape bin)
+        (R.stream rng.old)) }
+    ensures refused { IfErr result
+        (RoundFails (reply_size reader.now.shape targets.Document) (K.exchanges link.old)
+        (K.exchanges link.new)
+        (queries_request targets.Document reader.now.secret (bin_messages reader.now.shape bin)
+        (R.stream rng.old))) }
+    ensures cause { LinkFails (K.faults link.old) (K.faults link.new) (K.last_failed link.new)
+        (round_call reader.now.shape targets.Document) result }
     ensures ready { K.is_ready link.new ≡ true }
     ensures beside { K.beside link.new ≡ K.beside link.old }
 {
-    let Ok(query) = bin_query(alloc, reader, bin, rng) else {
-        return Err(SearchFault::OutOfMemory);
-    };
+    let query = bin_query(alloc, reader, bin, rng)?;
     let chunks = reader.tested().shape().chunks();
     ask_ciphers(alloc, link, reader, Target::Document, query, chunks)
 }
@@ -87,17 +99,15 @@ fn read_text(
 ) -> Result<Bytes, SearchFault>
     requires whole { length body.now ≡ reply_size reader.now.shape targets.Document }
     requires within { is_within_bins reader.now.shape place ≡ true }
-    ensures { (cs : List Ciphertext) → SpellsCiphers reader.now.shape.degree reader.now.shape.chunks cs body.now
+    ensures { (cs : List Ciphertext) → SpellsCiphers reader.now.shape.degree
+        reader.now.shape.chunks cs body.now
         → IsReadAs result (text_read reader.now.secret cs place) }
 {
     let shape = reader.tested().shape();
     let degree = Degree::of(shape.degree() as usize);
     let secret = reader.secret();
     let chunks = shape.chunks();
-    let bin = match open_part(alloc, secret, degree, body, chunks, Target::Document, 0) {
-        Ok(bin) => bin,
-        Err(fault) => return Err(fault),
-    };
+    let bin = open_part(alloc, secret, degree, body, chunks, Target::Document, 0)?;
     let start = place.offset as usize;
     let text = &bin.as_slice()[start..start + place.length as usize];
     match Bytes::copy_of(alloc, text) {
@@ -106,8 +116,8 @@ fn read_text(
     }
 }
 
-/// The number and the text of the document of the picked record, from the reply that spells its bin.
-/// Where no record is picked nothing is opened.
+/// The number and the text of the document of the picked record, from the reply that spells its
+/// bin. Where no record is picked nothing is opened.
 pub fn read_document(
     alloc: Global,
     reader: &Reader,
@@ -118,14 +128,13 @@ pub fn read_document(
     requires pick { 1 ≤ pick }
     requires whole { length body.now ≡ reply_size reader.now.shape targets.Document }
     requires within { All (λ r. is_within_bins reader.now.shape r.place ≡ true) records.now }
-    ensures { (cs : List Ciphertext) → SpellsCiphers reader.now.shape.degree reader.now.shape.chunks cs body.now
+    ensures { (cs : List Ciphertext) → SpellsCiphers reader.now.shape.degree
+        reader.now.shape.chunks cs body.now
         → IsReadAs result (picked_read reader.now.secret cs (picked_record records.now pick)) }
 {
-    match records.get(pick as usize - 1) {
-        Some(record) => match read_text(alloc, reader, body, record.place) {
-            Ok(text) => Ok(Some((record.document, text))),
-            Err(fault) => Err(fault),
-        },
-        None => Ok(None),
-    }
+    let Some(record) = records.get(pick as usize - 1) else {
+        return Ok(None);
+    };
+    let text = read_text(alloc, reader, body, record.place)?;
+    Ok(Some((record.document, text)))
 }

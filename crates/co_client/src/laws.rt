@@ -19,13 +19,15 @@ ghost use Rattle.co_client.specs.Plain.{AnswersPlainly};
 ghost use Rattle.co_client.specs.Sure.{AreSure};
 
 /// Over exchanges that are honest to the library of a corpus and settings, a search that asks as it
-/// draws, goes on only where it may, and reads or refuses what the replies show answers plainly: what
-/// plain search finds, or the witness that its hits can't be placed, or a refusal that no reply's
-/// content brings about.
+/// draws, goes on only where it may, and reads or refuses what the replies show answers plainly:
+/// what plain search finds, or the witness that its hits can't be placed, or a refusal that no
+/// reply's content brings about.
 pub fn search_is_plain()
-    ensures { (documents : List Document) (settings : Settings) (l : Parts) (held : Option (List ℕ)) (r : Search) (es : List Exchange) (result : Result Found SearchFault) (left : Stream)
+    ensures { (documents : List Document) (settings : Settings) (l : Parts) (held : Option (List ℕ))
+        (r : Search) (es : List Exchange) (result : Result Found SearchFault) (left : Stream)
         → IsLibraryFor documents settings l → AreHonest l held es → FollowsPlan es → GoesOn r es
-        → ((s : Numbers) (terms : List (List ℕ)) → Publishes es s terms → test_of s ≡ Ok s → Asks r es s terms result left)
+        → ((s : Numbers) (terms : List (List ℕ)) → Publishes es s terms → test_of s ≡ Ok s
+        → Asks r es s terms result left)
         → IfOk result (IsRead r es) → IfErr result (IsCause r es)
         → AnswersPlainly documents settings l r.query r.pick result }
 {}
@@ -33,8 +35,10 @@ pub fn search_is_plain()
 /// And each ciphertext that such a search decrypts means its message, with twice its noise below q:
 /// the published numbers passed the test.
 pub fn search_decrypts_surely()
-    ensures { (documents : List Document) (settings : Settings) (l : Parts) (held : Option (List ℕ)) (r : Search) (es : List Exchange) (result : Result Found SearchFault) (left : Stream)
+    ensures { (documents : List Document) (settings : Settings) (l : Parts) (held : Option (List ℕ))
+        (r : Search) (es : List Exchange) (result : Result Found SearchFault) (left : Stream)
         → IsLibraryFor documents settings l → AreHonest l held es → FollowsPlan es → GoesOn r es
-        → (s : Numbers) (terms : List (List ℕ)) → Publishes es s terms → test_of s ≡ Ok s → Asks r es s terms result left
+        → (s : Numbers) (terms : List (List ℕ)) → Publishes es s terms → test_of s ≡ Ok s
+        → Asks r es s terms result left
         → AreSure r es s terms }
 {}

@@ -1,6 +1,6 @@
 //! Which bucket each hit is asked of, and where its record stands there.
 
-ghost use Rattle.std.specs.Prelude.{◌≡◌, ◌<◌, ◌≤◌, ℕ, List, Option, length, map, take, Some, None, ◌==◌, slice_index_or, IfOk, IfSome};
+ghost use Rattle.std.specs.Prelude.{◌≡◌, ◌<◌, ◌≤◌, ℕ, Option, length, map, Some, None, ◌==◌, slice_index_or, IfOk, IfSome};
 ghost use Rattle.std.specs.List.{position, All};
 ghost use Rattle.std.specs.Option.{unwrap_or};
 ghost use Rattle.std.specs.Ordering.{nat_cmp};
@@ -34,7 +34,8 @@ pub struct Placing {
 /// The candidate buckets of each hit, by rank.
 fn choices(alloc: Global, shape: &Shape, hits: &[Ranked]) -> Result<Vec<[u32; 3]>, AllocError>
     ensures value { IfOk result (λ choices. choices.items ≡ choices_of shape.now hits.now) }
-    ensures within { IfOk result (λ choices. All (All (λ b. b < bucket_count shape.now.hits)) choices.items) }
+    ensures within { IfOk result (λ choices. All (All (λ b. b < bucket_count shape.now.hits))
+        choices.items) }
 {
     let _ = shape.degree();
     let count = buckets(shape.hits());
@@ -60,7 +61,8 @@ fn ranked_documents(
     ranks: &[u32],
 ) -> Result<BTreeSet<u32>, AllocError>
     requires { All (λ r. r < length hits.now) ranks.now }
-    ensures { IfOk result (λ documents. documents.keys ≡ in_order nat_cmp (map (document_at hits.now) ranks.now)) }
+    ensures { IfOk result
+        (λ documents. documents.keys ≡ in_order nat_cmp (map (document_at hits.now) ranks.now)) }
 {
     let mut documents = BTreeSet::new(alloc);
     for rank in ranks {
@@ -90,7 +92,8 @@ fn free_buckets(alloc: Global, count: u32) -> Result<Placement, AllocError>
 /// Places the hits of a search, each in one of its candidate buckets, no two in one.
 pub fn place_hits(alloc: Global, shape: &Shape, hits: &[Ranked]) -> Result<Placing, AllocError>
     requires { length hits.now ≤ MOST_ITEMS }
-    ensures { IfOk result (λ placing. ArePlaced shape.now hits.now placing.buckets placing.refused) }
+    ensures { IfOk result
+        (λ placing. ArePlaced shape.now hits.now placing.buckets placing.refused) }
 {
     let _ = shape.degree();
     let count = buckets(shape.hits());
@@ -129,10 +132,12 @@ fn place_in(list: &[u32], document: u32) -> usize
 /// The place in a bucket's list of the record that is asked: that of the hit of a rank, else the
 /// first.
 fn place_of(shape: &Shape, lists: &Lists, hits: &[Ranked], rank: Option<u32>, bucket: u32) -> usize
-    requires lists { lists.now ≡ lists_of shape.now.salt (bucket_count shape.now.hits) shape.now.documents }
+    requires lists { lists.now ≡ lists_of shape.now.salt (bucket_count shape.now.hits)
+        shape.now.documents }
     requires rank { IfSome rank (λ r. r < length hits.now) }
     requires bucket { bucket < bucket_count shape.now.hits }
-    requires rows { shape.now.rows ≡ rows_of shape.now.degree shape.now.documents shape.now.hits shape.now.salt }
+    requires rows { shape.now.rows ≡ rows_of shape.now.degree shape.now.documents shape.now.hits
+        shape.now.salt }
     ensures value { result ≡ place_asked shape.now hits.now rank bucket }
     ensures row { record_row shape.now.degree result < shape.now.rows }
 {
@@ -160,10 +165,13 @@ pub fn places(
     hits: &[Ranked],
     placed: &[Option<u32>],
 ) -> Result<Vec<usize>, AllocError>
-    requires rows { shape.now.rows ≡ rows_of shape.now.degree shape.now.documents shape.now.hits shape.now.salt }
+    requires rows { shape.now.rows ≡ rows_of shape.now.degree shape.now.documents shape.now.hits
+        shape.now.salt }
     requires ranks { (b r : ℕ) → slice_index_or placed.now b None ≡ Some r → r < length hits.now }
-    ensures value { IfOk result (λ places. places.items ≡ places_asked shape.now hits.now placed.now) }
-    ensures rows { IfOk result (λ places. All (λ p. record_row shape.now.degree p < shape.now.rows) places.items) }
+    ensures value { IfOk result
+        (λ places. places.items ≡ places_asked shape.now hits.now placed.now) }
+    ensures rows { IfOk result (λ places. All (λ p. record_row shape.now.degree p < shape.now.rows)
+        places.items) }
 {
     let _ = shape.degree();
     let count = buckets(shape.hits());

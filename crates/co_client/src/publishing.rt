@@ -1,6 +1,6 @@
 //! The round of the published parameters.
 
-ghost use Rattle.std.specs.Prelude.{◌≡◌, [], true, IfOk, IfErr};
+ghost use Rattle.std.specs.Prelude.{◌≡◌, true, IfOk, IfErr};
 ghost use Rattle.co_link.specs.declared.messages.Target.TheVariants as targets;
 ghost use Rattle.co_wire.specs.Lengths.{most_public};
 ghost use Rattle.co_client.specs.Rounds.{LinkFails};
@@ -20,7 +20,9 @@ const MOST_PUBLIC: u64 = 8_519_720;
 /// What a library publishes: its numbers, which passed the test, and its terms.
 #[derive(Drop)]
 pub struct Published {
+    /// The numbers.
     pub tested: Tested,
+    /// The terms, ascending.
     pub terms: Terms,
 }
 
@@ -29,14 +31,12 @@ pub(crate) fn consult<K: Link>(alloc: Global, link: &mut K) -> Result<Published,
     requires { K.is_ready link.old ≡ true }
     ensures found { IfOk result (Consults (K.exchanges link.old) (K.exchanges link.new)) }
     ensures refused { IfErr result (PublicFails (K.exchanges link.old) (K.exchanges link.new)) }
-    ensures cause { LinkFails (K.faults link.old) (K.faults link.new) (K.last_failed link.new) (record { target = targets.Public; limit = most_public }) result }
+    ensures cause { LinkFails (K.faults link.old) (K.faults link.new) (K.last_failed link.new)
+        (record { target = targets.Public; limit = most_public }) result }
     ensures ready { K.is_ready link.new ≡ true }
     ensures beside { K.beside link.new ≡ K.beside link.old }
 {
-    let body = match ask(link, Target::Public, Bytes::new(alloc), MOST_PUBLIC) {
-        Ok(body) => body,
-        Err(fault) => return Err(fault),
-    };
+    let body = ask(link, Target::Public, Bytes::new(alloc), MOST_PUBLIC)?;
     are_bytes(body.as_slice());
     let (shape, terms) = match read_public(alloc, body.as_slice()) {
         Ok(public) => public,

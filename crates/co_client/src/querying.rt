@@ -5,9 +5,9 @@ ghost use Rattle.co_link.specs.declared.messages.Target.TheVariants as targets;
 ghost use Rattle.co_ring.specs.Polynomials.{degree_of};
 ghost use Rattle.co_bfv.specs.Draws.{encryption_draw};
 ghost use Rattle.co_wire.specs.Bodies.{cipher_bytes};
-ghost use Rattle.co_wire.specs.Lengths.{cipher_size, reply_size, reply_limit};
+ghost use Rattle.co_wire.specs.Lengths.{cipher_size, reply_size};
 ghost use Rattle.co_rounds.specs.Asked.{row_message};
-ghost use Rattle.co_client.specs.Rounds.{RoundFails, LinkFails, Gives};
+ghost use Rattle.co_client.specs.Rounds.{round_call, RoundFails, LinkFails, Gives};
 
 use crate::asking::{LEAST_LIMIT, ask};
 use crate::fault::SearchFault;
@@ -32,8 +32,11 @@ pub(crate) fn put_query<R: Rng>(
 ) -> Result<(), AllocError>
     requires plain_modulus { message.now.modulus ≡ Modulus.Plain }
     requires one_degree { degree_of message.now ≡ length secret.now }
-    ensures spelled { OnOk result (body.new.items ≡ body.old.items ++ cipher_bytes (encryption_draw secret.now message.now.coeffs (R.stream rng.old)).0) }
-    ensures rest { OnOk result (R.stream rng.new ≡ (encryption_draw secret.now message.now.coeffs (R.stream rng.old)).1) }
+    ensures spelled { OnOk result
+        (body.new.items ≡ body.old.items ++ cipher_bytes
+        (encryption_draw secret.now message.now.coeffs (R.stream rng.old)).0) }
+    ensures rest { OnOk result
+        (R.stream rng.new ≡ (encryption_draw secret.now message.now.coeffs (R.stream rng.old)).1) }
 {
     let cipher = [encrypt(alloc, secret, message, rng)?];
     let bytes = write_ciphers(alloc, &cipher)?;
@@ -51,8 +54,14 @@ pub(crate) fn put_row<R: Rng>(
 ) -> Result<(), AllocError>
     requires in_range { row < rows }
     requires few { rows ≤ reader.now.shape.degree }
-    ensures spelled { OnOk result (body.new.items ≡ body.old.items ++ cipher_bytes (encryption_draw reader.now.secret (row_message reader.now.shape.degree rows row) (R.stream rng.old)).0) }
-    ensures rest { OnOk result (R.stream rng.new ≡ (encryption_draw reader.now.secret (row_message reader.now.shape.degree rows row) (R.stream rng.old)).1) }
+    ensures spelled { OnOk result
+        (body.new.items ≡ body.old.items ++ cipher_bytes
+        (encryption_draw reader.now.secret (row_message reader.now.shape.degree rows row)
+        (R.stream rng.old)).0) }
+    ensures rest { OnOk result
+        (R.stream rng.new
+        ≡ (encryption_draw reader.now.secret (row_message reader.now.shape.degree rows row)
+        (R.stream rng.old)).1) }
 {
     let shape = reader.tested().shape();
     let secret = reader.secret();
@@ -72,21 +81,22 @@ pub(crate) fn ask_ciphers<K: Link>(
 ) -> Result<Bytes, SearchFault>
     requires ready { K.is_ready link.old ≡ true }
     requires target { (target ≢ targets.Public) × (target ≢ targets.Keys) }
-    requires count { count * cipher_size reader.now.shape.degree ≡ reply_size reader.now.shape target }
-    ensures came { IfOk result (Gives reader.now.shape.degree count (K.exchanges link.old) (K.exchanges link.new) (record { target = target; body = queries })) }
-    ensures refused { IfErr result (RoundFails (reply_size reader.now.shape target) (K.exchanges link.old) (K.exchanges link.new) (record { target = target; body = queries })) }
-    ensures cause { LinkFails (K.faults link.old) (K.faults link.new) (K.last_failed link.new) (record { target = target; limit = reply_limit reader.now.shape target }) result }
+    requires count { count * cipher_size reader.now.shape.degree
+        ≡ reply_size reader.now.shape target }
+    ensures came { IfOk result
+        (Gives reader.now.shape.degree count (K.exchanges link.old) (K.exchanges link.new)
+        (record { target = target; body = queries })) }
+    ensures refused { IfErr result
+        (RoundFails (reply_size reader.now.shape target) (K.exchanges link.old)
+        (K.exchanges link.new) (record { target = target; body = queries })) }
+    ensures cause { LinkFails (K.faults link.old) (K.faults link.new) (K.last_failed link.new)
+        (round_call reader.now.shape target) result }
     ensures ready { K.is_ready link.new ≡ true }
     ensures beside { K.beside link.new ≡ K.beside link.old }
 {
     let degree = Degree::of(reader.tested().shape().degree() as usize);
     let limit = reply_length(reader.tested(), target).max(LEAST_LIMIT);
-    let body = match ask(link, target, queries, limit) {
-        Ok(body) => body,
-        Err(fault) => return Err(fault),
-    };
-    match check_reply(alloc, degree, count, target, body.as_slice()) {
-        Ok(()) => Ok(body),
-        Err(fault) => Err(fault),
-    }
+    let body = ask(link, target, queries, limit)?;
+    check_reply(alloc, degree, count, target, body.as_slice())?;
+    Ok(body)
 }

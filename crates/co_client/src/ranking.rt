@@ -6,9 +6,9 @@ ghost use Rattle.std.specs.Ordering.{nat_cmp};
 ghost use Rattle.std.specs.Cmp.Lexicographic.{slice_cmp};
 ghost use Rattle.co_link.specs.declared.messages.Target.TheVariants as targets;
 ghost use Rattle.co_text.specs.Numbers.{numbers_of, unknown_in};
-ghost use Rattle.co_wire.specs.Lengths.{reply_size, reply_limit};
+ghost use Rattle.co_wire.specs.Lengths.{reply_size};
 ghost use Rattle.co_rounds.specs.Asked.{AreKeywordMessages};
-ghost use Rattle.co_client.specs.Rounds.{RoundFails, LinkFails, Ranks, queries_request, queries_rest};
+ghost use Rattle.co_client.specs.Rounds.{round_call, RoundFails, LinkFails, Ranks, queries_request, queries_rest};
 ghost use Rattle.co_client.specs.Placings.{ArePlaced, shown_of};
 
 use crate::fault::SearchFault;
@@ -61,16 +61,27 @@ pub fn rank<K: Link, R: Rng>(
     requires ready { K.is_ready link.old ≡ true }
     requires sorted { IsStrictlySortedBy (slice_cmp nat_cmp) terms.now }
     requires few { length terms.now ≤ 2 ^ 32 }
-    ensures ranked { IfOk result (λ ranked. (messages : List (List ℕ)) → AreKeywordMessages reader.now.shape (numbers_of terms.now query.now) messages
-        → Ranks reader.now.shape reader.now.secret (K.exchanges link.old) (K.exchanges link.new) (queries_request targets.Score reader.now.secret messages (R.stream rng.old)) ranked.hits) }
+    ensures ranked { IfOk result (λ ranked. (messages : List (List ℕ))
+        → AreKeywordMessages reader.now.shape
+        (numbers_of terms.now query.now) messages
+        → Ranks reader.now.shape reader.now.secret (K.exchanges link.old) (K.exchanges link.new)
+        (queries_request targets.Score reader.now.secret messages (R.stream rng.old))
+        ranked.hits) }
     ensures few { IfOk result (λ ranked. length ranked.hits ≤ reader.now.shape.hits) }
     ensures unknown { IfOk result (λ ranked. ranked.unknown ≡ unknown_in terms.now query.now) }
-    ensures placed { IfOk result (λ ranked. ArePlaced reader.now.shape ranked.hits ranked.buckets ranked.refused) }
-    ensures rest { OnOk result ((messages : List (List ℕ)) → AreKeywordMessages reader.now.shape (numbers_of terms.now query.now) messages
+    ensures placed { IfOk result (λ ranked. ArePlaced reader.now.shape ranked.hits ranked.buckets
+        ranked.refused) }
+    ensures rest { OnOk result ((messages : List (List ℕ)) → AreKeywordMessages reader.now.shape
+        (numbers_of terms.now query.now) messages
         → R.stream rng.new ≡ queries_rest reader.now.secret messages (R.stream rng.old)) }
-    ensures refused { IfErr result (λ fault. (messages : List (List ℕ)) → AreKeywordMessages reader.now.shape (numbers_of terms.now query.now) messages
-        → RoundFails (reply_size reader.now.shape targets.Score) (K.exchanges link.old) (K.exchanges link.new) (queries_request targets.Score reader.now.secret messages (R.stream rng.old)) fault) }
-    ensures cause { LinkFails (K.faults link.old) (K.faults link.new) (K.last_failed link.new) (record { target = targets.Score; limit = reply_limit reader.now.shape targets.Score }) result }
+    ensures refused { IfErr result (λ fault. (messages : List (List ℕ))
+        → AreKeywordMessages reader.now.shape
+        (numbers_of terms.now query.now) messages
+        → RoundFails (reply_size reader.now.shape targets.Score) (K.exchanges link.old)
+        (K.exchanges link.new)
+        (queries_request targets.Score reader.now.secret messages (R.stream rng.old)) fault) }
+    ensures cause { LinkFails (K.faults link.old) (K.faults link.new) (K.last_failed link.new)
+        (round_call reader.now.shape targets.Score) result }
     ensures ready { K.is_ready link.new ≡ true }
     ensures beside { K.beside link.new ≡ K.beside link.old }
 {
@@ -80,10 +91,7 @@ pub fn rank<K: Link, R: Rng>(
     let Ok(unknown) = unknown_terms(alloc, terms, query) else {
         return Err(SearchFault::OutOfMemory);
     };
-    let hits = match score_hits(alloc, link, rng, reader, keywords.as_slice()) {
-        Ok(hits) => hits,
-        Err(fault) => return Err(fault),
-    };
+    let hits = score_hits(alloc, link, rng, reader, keywords.as_slice())?;
     let shape = reader.tested().shape();
     let _ = shape.degree();
     let Ok(placing) = place_hits(alloc, shape, hits.as_slice()) else {

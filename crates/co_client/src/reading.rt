@@ -1,16 +1,13 @@
 //! Replies, checked whole and then opened one ciphertext after another.
 
-ghost use Rattle.std.specs.Prelude.{◌≡◌, ◌+◌, ◌*◌, ◌^◌, ◌<◌, ◌≤◌, ◌++◌, ℕ, List, length, take, drop, IfOk, IfErr, OnOk};
-ghost use Rattle.co_math.specs.Coefficients.{AreBelow};
-ghost use Rattle.co_slots.specs.Payloads.{IsPayload};
-ghost use Rattle.co_slots.specs.Faults.{IsCause};
+ghost use Rattle.std.specs.Prelude.{◌≡◌, ◌+◌, ◌*◌, ◌^◌, ◌<◌, ◌≤◌, ℕ, List, length, take, drop, IfOk, IfErr, OnOk};
 ghost use Rattle.co_bfv.specs.Ciphertexts.{Ciphertext, ciphertext_degree};
 ghost use Rattle.co_bfv.specs.Totals.{ciphertext_at};
 ghost use Rattle.co_bfv.specs.Encryptions.{decrypted};
 ghost use Rattle.co_pir.specs.Openings.{opened_reply, IsCauseFrom};
 ghost use Rattle.co_wire.specs.Bodies.{SpellsCiphers};
 ghost use Rattle.co_wire.specs.Lengths.{cipher_size};
-ghost use Rattle.co_client.specs.Openings.{AreSpelled, IsRefusedBody, IsPlaceBelow, part_of};
+ghost use Rattle.co_client.specs.Openings.{AddsPayload, AreSpelled, IsRefusedBody, IsPlaceBelow, OpensTo, part_of};
 ghost use Rattle.co_client.specs.Records.{opened_bytes};
 ghost use Rattle.co_client.specs.Faults.{IsReadAs};
 
@@ -36,8 +33,8 @@ fn piece_at(degree: Degree, body: &[u8], at: usize) -> &[u8]
     &body[start..start + size]
 }
 
-/// Checks that the body of a reply to a target spells so many ciphertexts, one of which is held at a
-/// time.
+/// Checks that the body of a reply to a target spells so many ciphertexts, one of which is held at
+/// a time.
 pub(crate) fn check_reply(
     alloc: Global,
     degree: Degree,
@@ -84,7 +81,9 @@ pub(crate) fn cipher_at(
     at: usize,
 ) -> Result<Cipher, AllocError>
     requires { (at + 1) * cipher_size degree ≤ length body.now }
-    ensures value { IfOk result (λ c. (cs : List Ciphertext) (count : ℕ) → SpellsCiphers degree count cs body.now → c ≡ ciphertext_at cs at) }
+    ensures value { IfOk result (λ c. (cs : List Ciphertext) (count : ℕ)
+        → SpellsCiphers degree count cs
+        body.now → c ≡ ciphertext_at cs at) }
     ensures degree { IfOk result (λ c. ciphertext_degree c ≡ degree) }
 {
     let _n = degree.get();
@@ -104,9 +103,8 @@ fn open_at(
 ) -> Result<Bytes, ByteFault>
     requires one_degree { length secret.now ≡ degree }
     requires whole { (at + 1) * cipher_size degree ≤ length body.now }
-    ensures bytes { IfOk result (λ bytes. (cs : List Ciphertext) (count : ℕ) → SpellsCiphers degree count cs body.now → IsPayload bytes (decrypted secret.now (ciphertext_at cs at))) }
-    ensures whole { OnOk result ((cs : List Ciphertext) (count : ℕ) → SpellsCiphers degree count cs body.now → AreBelow 65536 (decrypted secret.now (ciphertext_at cs at))) }
-    ensures fault { IfErr result (λ fault. (cs : List Ciphertext) (count : ℕ) → SpellsCiphers degree count cs body.now → IsCause (decrypted secret.now (ciphertext_at cs at)) fault) }
+    ensures opened { OpensTo degree body.now
+        (λ cs. decrypted secret.now (ciphertext_at cs at)) result }
     ensures within { IfErr result (IsPlaceBelow degree) }
     ensures long { IfOk result (λ bytes. length bytes ≡ 2 * degree) }
 {
@@ -118,8 +116,8 @@ fn open_at(
     open_reply(alloc, secret, &one)
 }
 
-/// Adds the bytes of the ciphertext at a place, the chunk of this number. The place of a fault counts
-/// the coefficients of earlier chunks, too.
+/// Adds the bytes of the ciphertext at a place, the chunk of this number. The place of a fault
+/// counts the coefficients of earlier chunks, too.
 fn open_one(
     alloc: Global,
     secret: &Secret,
@@ -132,10 +130,11 @@ fn open_one(
     requires one_degree { length secret.now ≡ degree }
     requires whole { (at + 1) * cipher_size degree ≤ length body.now }
     requires few { (chunk + 1) * degree ≤ 2 ^ 32 }
-    ensures bytes { OnOk result ((cs : List Ciphertext) (count : ℕ) (coeffs : List ℕ) → SpellsCiphers degree count cs body.now
-        → IsPayload bytes.old coeffs → IsPayload bytes.new (coeffs ++ decrypted secret.now (ciphertext_at cs at))) }
-    ensures whole { OnOk result ((cs : List Ciphertext) (count : ℕ) → SpellsCiphers degree count cs body.now → AreBelow 65536 (decrypted secret.now (ciphertext_at cs at))) }
-    ensures fault { IfErr result (λ fault. (cs : List Ciphertext) (count : ℕ) → SpellsCiphers degree count cs body.now
+    ensures bytes { OnOk result
+        ((cs : List Ciphertext) (count : ℕ) → SpellsCiphers degree count cs body.now
+        → AddsPayload bytes.old bytes.new (decrypted secret.now (ciphertext_at cs at))) }
+    ensures fault { IfErr result (λ fault. (cs : List Ciphertext) (count : ℕ)
+        → SpellsCiphers degree count cs body.now
         → IsCauseFrom (chunk * degree) (decrypted secret.now (ciphertext_at cs at)) fault) }
     ensures long { OnOk result (length bytes.new ≡ length bytes.old + 2 * degree) }
 {
@@ -164,9 +163,8 @@ fn open_from(
     requires one_degree { length secret.now ≡ degree }
     requires whole { (from + count) * cipher_size degree ≤ length body.now }
     requires few { count * degree ≤ 2 ^ 32 }
-    ensures bytes { IfOk result (λ bytes. (cs : List Ciphertext) (all : ℕ) → SpellsCiphers degree all cs body.now → IsPayload bytes (opened_reply secret.now (part_of from count cs))) }
-    ensures whole { OnOk result ((cs : List Ciphertext) (all : ℕ) → SpellsCiphers degree all cs body.now → AreBelow 65536 (opened_reply secret.now (part_of from count cs))) }
-    ensures fault { IfErr result (λ fault. (cs : List Ciphertext) (all : ℕ) → SpellsCiphers degree all cs body.now → IsCause (opened_reply secret.now (part_of from count cs)) fault) }
+    ensures opened { OpensTo degree body.now
+        (λ cs. opened_reply secret.now (part_of from count cs)) result }
     ensures long { IfOk result (λ bytes. length bytes ≡ 2 * (count * degree)) }
 {
     let n = degree.get() as usize;
@@ -194,7 +192,9 @@ pub(crate) fn open_part(
     requires whole { (reply * count + count) * cipher_size degree ≤ length body.now }
     requires few { count * degree ≤ 2 ^ 32 }
     ensures read { (cs : List Ciphertext) (all : ℕ) → SpellsCiphers degree all cs body.now
-        → IsReadAs result (opened_bytes target reply (opened_reply secret.now (part_of (reply * count) count cs))) }
+        → IsReadAs result
+        (opened_bytes target reply
+        (opened_reply secret.now (part_of (reply * count) count cs))) }
     ensures long { IfOk result (λ bytes. length bytes ≡ 2 * (count * degree)) }
 {
     let from = reply as usize * count as usize;

@@ -1,6 +1,6 @@
 //! The round of the records.
 
-ghost use Rattle.std.specs.Prelude.{◌≡◌, ◌+◌, ◌*◌, ◌<◌, ◌≤◌, true, ℕ, List, Option, Some, None, Ok, length, map, slice_index, slice_index_or, IfOk, IfErr, OnOk};
+ghost use Rattle.std.specs.Prelude.{◌≡◌, ◌+◌, ◌*◌, ◌<◌, ◌≤◌, true, ℕ, List, Option, Some, None, Ok, length, map, IfOk, IfErr, OnOk};
 ghost use Rattle.std.specs.List.{All, position};
 ghost use Rattle.co_link.specs.declared.messages.Target.TheVariants as targets;
 ghost use Rattle.co_bucket.specs.Lists.{bucket_count};
@@ -10,11 +10,11 @@ ghost use Rattle.co_bucket.specs.Bytes.{record_row};
 ghost use Rattle.co_bfv.specs.Ciphertexts.{Ciphertext};
 ghost use Rattle.co_pack.specs.Records.{record_of};
 ghost use Rattle.co_wire.specs.Bodies.{SpellsCiphers, ciphers_bytes};
-ghost use Rattle.co_wire.specs.Lengths.{reply_size, reply_limit};
+ghost use Rattle.co_wire.specs.Lengths.{reply_size};
 ghost use Rattle.co_rounds.specs.Asked.{encryptions_draw};
 ghost use Rattle.co_rounds.specs.Placing.{place_in_bucket};
 ghost use Rattle.co_rounds.specs.Recording as recordings;
-ghost use Rattle.co_client.specs.Rounds.{RoundFails, LinkFails, Gives, queries_request, queries_rest, record_messages};
+ghost use Rattle.co_client.specs.Rounds.{round_call, RoundFails, LinkFails, Gives, queries_request, queries_rest, record_messages};
 ghost use Rattle.co_client.specs.Placings.{places_asked, HaveBuckets, ArePlaced, shown_of};
 ghost use Rattle.co_client.specs.Gathered.{with_bins, ReadsReplies, RecordsFail, records_rest};
 ghost use Rattle.co_client.specs.Records as readings;
@@ -65,9 +65,11 @@ fn record_queries<R: Rng>(
 ) -> Result<Bytes, AllocError>
     requires { All (λ p. record_row reader.now.shape.degree p < reader.now.shape.rows) places.now }
     ensures body { IfOk result (λ body. body ≡ ciphers_bytes (encryptions_draw reader.now.secret
-        (record_messages reader.now.shape (map (record_row reader.now.shape.degree) places.now)) (R.stream rng.old)).0) }
+        (record_messages reader.now.shape (map (record_row reader.now.shape.degree) places.now))
+        (R.stream rng.old)).0) }
     ensures rest { OnOk result (R.stream rng.new ≡ queries_rest reader.now.secret
-        (record_messages reader.now.shape (map (record_row reader.now.shape.degree) places.now)) (R.stream rng.old)) }
+        (record_messages reader.now.shape (map (record_row reader.now.shape.degree) places.now))
+        (R.stream rng.old)) }
 {
     let shape = reader.tested().shape();
     let degree = shape.degree();
@@ -81,8 +83,8 @@ fn record_queries<R: Rng>(
     Ok(Bytes::from_vec(body))
 }
 
-/// Asks each bucket for the row of a place in its list, and gives the body of the reply, which spells
-/// what each bucket answers. After an error the rest of the stream is not stated.
+/// Asks each bucket for the row of a place in its list, and gives the body of the reply, which
+/// spells what each bucket answers. After an error the rest of the stream is not stated.
 fn gather<K: Link, R: Rng>(
     alloc: Global,
     link: &mut K,
@@ -91,20 +93,30 @@ fn gather<K: Link, R: Rng>(
     places: &[usize],
 ) -> Result<Bytes, SearchFault>
     requires ready { K.is_ready link.old ≡ true }
-    requires rows { All (λ p. record_row reader.now.shape.degree p < reader.now.shape.rows) places.now }
-    ensures came { IfOk result (Gives reader.now.shape.degree (bucket_count reader.now.shape.hits * layouts.record_chunks reader.now.shape.degree) (K.exchanges link.old) (K.exchanges link.new)
-        (queries_request targets.Meta reader.now.secret (record_messages reader.now.shape (map (record_row reader.now.shape.degree) places.now)) (R.stream rng.old))) }
+    requires rows { All (λ p. record_row reader.now.shape.degree p < reader.now.shape.rows)
+        places.now }
+    ensures came { IfOk result
+        (Gives reader.now.shape.degree
+        (bucket_count reader.now.shape.hits * layouts.record_chunks reader.now.shape.degree)
+        (K.exchanges link.old) (K.exchanges link.new)
+        (queries_request targets.Meta reader.now.secret
+        (record_messages reader.now.shape (map (record_row reader.now.shape.degree) places.now))
+        (R.stream rng.old))) }
     ensures rest { OnOk result (R.stream rng.new ≡ queries_rest reader.now.secret
-        (record_messages reader.now.shape (map (record_row reader.now.shape.degree) places.now)) (R.stream rng.old)) }
-    ensures refused { IfErr result (RoundFails (reply_size reader.now.shape targets.Meta) (K.exchanges link.old) (K.exchanges link.new)
-        (queries_request targets.Meta reader.now.secret (record_messages reader.now.shape (map (record_row reader.now.shape.degree) places.now)) (R.stream rng.old))) }
-    ensures cause { LinkFails (K.faults link.old) (K.faults link.new) (K.last_failed link.new) (record { target = targets.Meta; limit = reply_limit reader.now.shape targets.Meta }) result }
+        (record_messages reader.now.shape (map (record_row reader.now.shape.degree) places.now))
+        (R.stream rng.old)) }
+    ensures refused { IfErr result
+        (RoundFails (reply_size reader.now.shape targets.Meta) (K.exchanges link.old)
+        (K.exchanges link.new)
+        (queries_request targets.Meta reader.now.secret
+        (record_messages reader.now.shape (map (record_row reader.now.shape.degree) places.now))
+        (R.stream rng.old))) }
+    ensures cause { LinkFails (K.faults link.old) (K.faults link.new) (K.last_failed link.new)
+        (round_call reader.now.shape targets.Meta) result }
     ensures ready { K.is_ready link.new ≡ true }
     ensures beside { K.beside link.new ≡ K.beside link.old }
 {
-    let Ok(queries) = record_queries(alloc, reader, places, rng) else {
-        return Err(SearchFault::OutOfMemory);
-    };
+    let queries = record_queries(alloc, reader, places, rng)?;
     let shape = reader.tested().shape();
     let degree = shape.degree();
     let count = buckets(shape.hits()) * record_chunks(degree);
@@ -131,8 +143,10 @@ fn check_record(
     bytes: &[u8],
 ) -> Result<Record, SearchFault>
     requires { length bytes.now ≡ RECORD_BYTES }
-    ensures read { IsReadAs result (checked (with_bins shape.now bins) document (record_of bytes.now)) }
-    ensures within { IfOk result (λ r. recordings.is_within_bins (with_bins shape.now bins) r.place ≡ true) }
+    ensures read { IsReadAs result
+        (checked (with_bins shape.now bins) document (record_of bytes.now)) }
+    ensures within { IfOk result
+        (λ r. recordings.is_within_bins (with_bins shape.now bins) r.place ≡ true) }
 {
     let record = match read_record(alloc, bytes) {
         Ok(record) => record,
@@ -166,19 +180,19 @@ fn read_one(
     requires whole { length body.now ≡ reply_size reader.now.shape targets.Meta }
     requires bucket { bucket < bucket_count reader.now.shape.hits }
     requires place { place ≡ place_in_bucket reader.now.shape bucket document }
-    ensures read { (cs : List Ciphertext) (all : ℕ) → SpellsCiphers reader.now.shape.degree all cs body.now
-        → IsReadAs result (record_read (with_bins reader.now.shape bins) reader.now.secret cs bucket document) }
-    ensures within { IfOk result (λ r. recordings.is_within_bins (with_bins reader.now.shape bins) r.place ≡ true) }
+    ensures read { (cs : List Ciphertext) (all : ℕ) → SpellsCiphers reader.now.shape.degree
+        all cs body.now
+        → IsReadAs result (record_read (with_bins reader.now.shape bins) reader.now.secret cs
+        bucket document) }
+    ensures within { IfOk result (λ r. recordings.is_within_bins (with_bins reader.now.shape bins)
+        r.place ≡ true) }
 {
     let shape = reader.tested().shape();
     let size = shape.degree();
     let degree = Degree::of(size as usize);
     let count = record_chunks(size);
     let secret = reader.secret();
-    let row = match open_part(alloc, secret, degree, body, count, Target::Meta, bucket) {
-        Ok(row) => row,
-        Err(fault) => return Err(fault),
-    };
+    let row = open_part(alloc, secret, degree, body, count, Target::Meta, bucket)?;
     let start = RECORD_BYTES * (place % records_a_row(size) as usize);
     check_record(
         alloc,
@@ -213,8 +227,8 @@ fn bucket_of(placed: &[Option<u32>], rank: u32) -> usize
     placed_at(placed, rank).unwrap_or(0)
 }
 
-/// The records of hits by rank, from the replies of the buckets in which they are placed. A place is
-/// to be inside so many bins.
+/// The records of hits by rank, from the replies of the buckets in which they are placed. A place
+/// is to be inside so many bins.
 fn read_records(
     alloc: Global,
     reader: &Reader,
@@ -228,9 +242,13 @@ fn read_records(
     requires placed { HaveBuckets reader.now.shape hits.now placed.now }
     requires few { length hits.now ≤ 64 }
     requires places { places.now ≡ places_asked reader.now.shape hits.now placed.now }
-    ensures read { (cs : List Ciphertext) (all : ℕ) → SpellsCiphers reader.now.shape.degree all cs body.now
-        → IsReadAs result (records_read (with_bins reader.now.shape bins) reader.now.secret cs placed.now 0 hits.now) }
-    ensures within { IfOk result (λ records. All (λ r. recordings.is_within_bins (with_bins reader.now.shape bins) r.place ≡ true) records) }
+    ensures read { (cs : List Ciphertext) (all : ℕ) → SpellsCiphers reader.now.shape.degree
+        all cs body.now
+        → IsReadAs result (records_read (with_bins reader.now.shape bins) reader.now.secret cs
+        placed.now 0 hits.now) }
+    ensures within { IfOk result
+        (λ records. All (λ r. recordings.is_within_bins (with_bins reader.now.shape bins) r.place
+        ≡ true) records) }
     ensures long { IfOk result (λ records. length records ≡ length hits.now) }
 {
     let _ = reader.tested().shape().degree();
@@ -241,10 +259,7 @@ fn read_records(
         let bucket = bucket_of(placed, rank as u32);
         let place = places[bucket];
         let document = hits[rank].document;
-        let record = match read_one(alloc, reader, body, bins, bucket as u32, place, document) {
-            Ok(record) => record,
-            Err(fault) => return Err(fault),
-        };
+        let record = read_one(alloc, reader, body, bins, bucket as u32, place, document)?;
         let Ok(()) = records.push(record) else {
             return Err(SearchFault::OutOfMemory);
         };
@@ -252,8 +267,9 @@ fn read_records(
     Ok(records)
 }
 
-/// Asks for the records of ranked hits, and gives them by rank; none where the hits can't be placed.
-/// A place is to be inside so many bins. After an error the rest of the stream is not stated.
+/// Asks for the records of ranked hits, and gives them by rank; none where the hits can't be
+/// placed. A place is to be inside so many bins. After an error the rest of the stream is not
+/// stated.
 pub fn records<K: Link, R: Rng>(
     alloc: Global,
     reader: &Reader,
@@ -263,15 +279,25 @@ pub fn records<K: Link, R: Rng>(
     bins: u32,
 ) -> Result<Listed<Record>, SearchFault>
     requires ready { K.is_ready link.old ≡ true }
-    requires rows { reader.now.shape.rows ≡ rows_specs.rows_of reader.now.shape.degree reader.now.shape.documents reader.now.shape.hits reader.now.shape.salt }
+    requires rows { reader.now.shape.rows ≡ rows_specs.rows_of reader.now.shape.degree
+        reader.now.shape.documents reader.now.shape.hits reader.now.shape.salt }
     requires few { length ranked.now.hits ≤ reader.now.shape.hits }
-    requires placed { ArePlaced reader.now.shape ranked.now.hits ranked.now.buckets ranked.now.refused }
-    ensures read { IfOk result (λ records. ReadsReplies reader.now ranked.now bins (K.exchanges link.old) (K.exchanges link.new) (R.stream rng.old) (Ok records)) }
-    ensures long { IfOk result (λ records. length records ≡ length (shown_of ranked.now.refused ranked.now.hits)) }
-    ensures within { IfOk result (λ records. All (λ r. recordings.is_within_bins (with_bins reader.now.shape bins) r.place ≡ true) records) }
-    ensures rest { OnOk result (R.stream rng.new ≡ records_rest reader.now ranked.now (R.stream rng.old)) }
-    ensures refused { IfErr result (RecordsFail reader.now ranked.now bins (K.exchanges link.old) (K.exchanges link.new) (R.stream rng.old)) }
-    ensures cause { LinkFails (K.faults link.old) (K.faults link.new) (K.last_failed link.new) (record { target = targets.Meta; limit = reply_limit reader.now.shape targets.Meta }) result }
+    requires placed { ArePlaced reader.now.shape ranked.now.hits ranked.now.buckets
+        ranked.now.refused }
+    ensures read { IfOk result
+        (λ records. ReadsReplies reader.now ranked.now bins (K.exchanges link.old)
+        (K.exchanges link.new) (R.stream rng.old) (Ok records)) }
+    ensures long { IfOk result
+        (λ records. length records ≡ length (shown_of ranked.now.refused ranked.now.hits)) }
+    ensures within { IfOk result
+        (λ records. All (λ r. recordings.is_within_bins (with_bins reader.now.shape bins) r.place
+        ≡ true) records) }
+    ensures rest { OnOk result
+        (R.stream rng.new ≡ records_rest reader.now ranked.now (R.stream rng.old)) }
+    ensures refused { IfErr result (RecordsFail reader.now ranked.now bins (K.exchanges link.old)
+        (K.exchanges link.new) (R.stream rng.old)) }
+    ensures cause { LinkFails (K.faults link.old) (K.faults link.new) (K.last_failed link.new)
+        (round_call reader.now.shape targets.Meta) result }
     ensures ready { K.is_ready link.new ≡ true }
     ensures beside { K.beside link.new ≡ K.beside link.old }
 {
@@ -283,9 +309,6 @@ pub fn records<K: Link, R: Rng>(
         return Err(SearchFault::OutOfMemory);
     };
     let asked = spots.as_slice();
-    let rows = match gather(alloc, link, rng, reader, asked) {
-        Ok(rows) => rows,
-        Err(fault) => return Err(fault),
-    };
+    let rows = gather(alloc, link, rng, reader, asked)?;
     read_records(alloc, reader, rows.as_slice(), bins, hits, placed, asked)
 }

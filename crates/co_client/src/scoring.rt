@@ -1,6 +1,6 @@
 //! The round of the scores.
 
-ghost use Rattle.std.specs.Prelude.{◌≡◌, ◌+◌, ◌-◌, ◌*◌, ◌==◌, ◌^◌, ◌<◌, ◌≤◌, ◌++◌, true, ℕ, List, length, map, take, slice_index, max, min, All, IfOk, IfErr, OnOk};
+ghost use Rattle.std.specs.Prelude.{◌≡◌, ◌+◌, ◌-◌, ◌*◌, ◌==◌, ◌<◌, ◌≤◌, ◌++◌, true, ℕ, List, length, take, slice_index, min, IfOk, IfErr, OnOk};
 ghost use Rattle.std.specs.List.{list_any};
 ghost use Rattle.co_link.specs.declared.messages.Target.TheVariants as targets;
 ghost use Rattle.co_math.specs.Parameters.{plain_modulus};
@@ -14,10 +14,10 @@ ghost use Rattle.co_ring.specs.Polynomials.{degree_of};
 ghost use Rattle.co_matvec.specs.Weights.{keyword_slot};
 ghost use Rattle.co_matvec.specs.Replies.{HasSlots};
 ghost use Rattle.co_wire.specs.Bodies.{SpellsCiphers, ciphers_bytes};
-ghost use Rattle.co_wire.specs.Lengths.{cipher_size, reply_size, reply_limit};
+ghost use Rattle.co_wire.specs.Lengths.{cipher_size, reply_size};
 ghost use Rattle.co_rounds.specs.Asked.{AreKeywordMessages, encryptions_draw};
 ghost use Rattle.co_rounds.specs.Scoring.{scores_read};
-ghost use Rattle.co_client.specs.Rounds.{RoundFails, LinkFails, Ranks, queries_request, queries_rest};
+ghost use Rattle.co_client.specs.Rounds.{round_call, RoundFails, LinkFails, Ranks, queries_request, queries_rest};
 
 use crate::fault::SearchFault;
 use crate::querying::{ask_ciphers, put_query};
@@ -40,7 +40,8 @@ fn is_keyword(keywords: &[u32], term: usize) -> bool
     keywords.iter().any(|keyword| *keyword as usize == term)
 }
 
-/// A slot of the keyword polynomial of a block of terms: 1 where the term of its column is a keyword.
+/// A slot of the keyword polynomial of a block of terms: 1 where the term of its column is a
+/// keyword.
 #[tactic(auto, unfolding(co_matvec::specs::Weights::keyword_slot))]
 fn slot_at(keywords: &[u32], degree: usize, block: usize, p: usize) -> u64
     requires degree { (2 ≤ degree) × (degree ≤ 4096) }
@@ -56,7 +57,8 @@ fn slot_at(keywords: &[u32], degree: usize, block: usize, p: usize) -> u64
 fn fill_slots(keywords: &[u32], block: usize, slots: &mut [u64])
     requires degree { (2 ≤ length slots.old) × (length slots.old ≤ 4096) }
     requires block { block ≤ 16384 }
-    ensures slots { (p : ℕ) → p < length slots.old → slice_index slots.new p ≡ keyword_slot (length slots.old) keywords.now block p }
+    ensures slots { (p : ℕ) → p < length slots.old → slice_index slots.new p
+        ≡ keyword_slot (length slots.old) keywords.now block p }
     ensures small { AreBelow plain_modulus slots.new }
 {
     for p in 0..slots.len() {
@@ -81,7 +83,8 @@ fn write_keywords(
     requires message_modulus { message.old.modulus ≡ Modulus.Plain }
     requires message_degree { degree_of message.old ≡ table.now }
     ensures modulus { message.new.modulus ≡ Modulus.Plain }
-    ensures spelled { HasSlots table.now (keyword_slot table.now keywords.now block) message.new.coeffs }
+    ensures spelled { HasSlots table.now (keyword_slot table.now keywords.now block)
+        message.new.coeffs }
     ensures scratch_modulus { scratch.new.modulus ≡ Modulus.Plain }
     ensures scratch_degree { length scratch.new.values ≡ table.now }
 {
@@ -97,9 +100,12 @@ fn score_queries<R: Rng>(
     keywords: &[u32],
     rng: &mut R,
 ) -> Result<Bytes, AllocError>
-    ensures body { IfOk result (λ body. (messages : List (List ℕ)) → AreKeywordMessages reader.now.shape keywords.now messages
+    ensures body { IfOk result
+        (λ body. (messages : List (List ℕ)) → AreKeywordMessages reader.now.shape
+        keywords.now messages
         → body ≡ ciphers_bytes (encryptions_draw reader.now.secret messages (R.stream rng.old)).0) }
-    ensures rest { OnOk result ((messages : List (List ℕ)) → AreKeywordMessages reader.now.shape keywords.now messages
+    ensures rest { OnOk result ((messages : List (List ℕ)) → AreKeywordMessages reader.now.shape
+        keywords.now messages
         → R.stream rng.new ≡ queries_rest reader.now.secret messages (R.stream rng.old)) }
 {
     let secret = reader.secret();
@@ -131,7 +137,9 @@ fn score_queries<R: Rng>(
 /// Adds the scores of the documents of a block, which are the first slots of its reply.
 fn add_scores(slots: &[u64], documents: usize, scores: &mut Vec<u32>) -> Result<(), AllocError>
     requires { AreBelow plain_modulus slots.now }
-    ensures { OnOk result (scores.new.items ≡ scores.old.items ++ take (documents - length scores.old.items) slots.now) }
+    ensures { OnOk result
+        (scores.new.items ≡ scores.old.items ++ take
+        (documents - length scores.old.items) slots.now) }
 {
     let count = slots.len().min(documents.saturating_sub(scores.len()));
     for slot in &slots[..count] {
@@ -155,8 +163,11 @@ fn read_slots(
     requires slots_degree { length slots.old ≡ table.now }
     requires scratch_modulus { scratch.old.modulus ≡ Modulus.Plain }
     requires scratch_degree { length scratch.old.values ≡ table.now }
-    ensures slots { OnOk result ((cs : List Ciphertext) (count : ℕ) → SpellsCiphers reader.now.shape.degree count cs body.now
-        → (p : ℕ) → p < table.now → slice_index slots.new p ≡ slot (decrypted reader.now.secret (ciphertext_at cs block)) p) }
+    ensures slots { OnOk result
+        ((cs : List Ciphertext) (count : ℕ) → SpellsCiphers reader.now.shape.degree
+        count cs body.now
+        → (p : ℕ) → p < table.now → slice_index slots.new p
+        ≡ slot (decrypted reader.now.secret (ciphertext_at cs block)) p) }
     ensures small { OnOk result (AreBelow plain_modulus slots.new) }
     ensures scratch_modulus { OnOk result (scratch.new.modulus ≡ Modulus.Plain) }
     ensures scratch_degree { OnOk result (length scratch.new.values ≡ table.now) }
@@ -172,7 +183,8 @@ fn read_slots(
 /// The scores of all documents, which the replies show.
 fn read_scores(alloc: Global, reader: &Reader, body: &[u8]) -> Result<Vec<u32>, AllocError>
     requires { length body.now ≡ reply_size reader.now.shape targets.Score }
-    ensures { IfOk result (λ scores. (cs : List Ciphertext) → SpellsCiphers reader.now.shape.degree (document_blocks reader.now.shape) cs body.now
+    ensures { IfOk result (λ scores. (cs : List Ciphertext) → SpellsCiphers reader.now.shape.degree
+        (document_blocks reader.now.shape) cs body.now
         → scores.items ≡ scores_read reader.now.shape reader.now.secret cs) }
 {
     let shape = reader.tested().shape();
@@ -210,13 +222,22 @@ pub fn score_hits<K: Link, R: Rng>(
     keywords: &[u32],
 ) -> Result<Listed<Ranked>, SearchFault>
     requires { K.is_ready link.old ≡ true }
-    ensures ranked { IfOk result (λ hits. (messages : List (List ℕ)) → AreKeywordMessages reader.now.shape keywords.now messages
-        → Ranks reader.now.shape reader.now.secret (K.exchanges link.old) (K.exchanges link.new) (queries_request targets.Score reader.now.secret messages (R.stream rng.old)) hits) }
-    ensures rest { OnOk result ((messages : List (List ℕ)) → AreKeywordMessages reader.now.shape keywords.now messages
+    ensures ranked { IfOk result
+        (λ hits. (messages : List (List ℕ)) → AreKeywordMessages reader.now.shape
+        keywords.now messages
+        → Ranks reader.now.shape reader.now.secret (K.exchanges link.old) (K.exchanges link.new)
+        (queries_request targets.Score reader.now.secret messages (R.stream rng.old)) hits) }
+    ensures rest { OnOk result ((messages : List (List ℕ)) → AreKeywordMessages reader.now.shape
+        keywords.now messages
         → R.stream rng.new ≡ queries_rest reader.now.secret messages (R.stream rng.old)) }
-    ensures refused { IfErr result (λ fault. (messages : List (List ℕ)) → AreKeywordMessages reader.now.shape keywords.now messages
-        → RoundFails (reply_size reader.now.shape targets.Score) (K.exchanges link.old) (K.exchanges link.new) (queries_request targets.Score reader.now.secret messages (R.stream rng.old)) fault) }
-    ensures cause { LinkFails (K.faults link.old) (K.faults link.new) (K.last_failed link.new) (record { target = targets.Score; limit = reply_limit reader.now.shape targets.Score }) result }
+    ensures refused { IfErr result (λ fault. (messages : List (List ℕ))
+        → AreKeywordMessages reader.now.shape
+        keywords.now messages
+        → RoundFails (reply_size reader.now.shape targets.Score) (K.exchanges link.old)
+        (K.exchanges link.new)
+        (queries_request targets.Score reader.now.secret messages (R.stream rng.old)) fault) }
+    ensures cause { LinkFails (K.faults link.old) (K.faults link.new) (K.last_failed link.new)
+        (round_call reader.now.shape targets.Score) result }
     ensures few { IfOk result (λ hits. length hits ≤ reader.now.shape.hits) }
     ensures ready { K.is_ready link.new ≡ true }
     ensures beside { K.beside link.new ≡ K.beside link.old }
@@ -227,10 +248,7 @@ pub fn score_hits<K: Link, R: Rng>(
     let shape = reader.tested().shape();
     let _ = shape.degree();
     let blocks = shape.document_blocks();
-    let body = match ask_ciphers(alloc, link, reader, Target::Score, queries, blocks) {
-        Ok(body) => body,
-        Err(fault) => return Err(fault),
-    };
+    let body = ask_ciphers(alloc, link, reader, Target::Score, queries, blocks)?;
     let Ok(scores) = read_scores(alloc, reader, body.as_slice()) else {
         return Err(SearchFault::OutOfMemory);
     };

@@ -1,11 +1,10 @@
 //! The round of the keys.
 
-ghost use Rattle.std.specs.Prelude.{◌≡◌, ◌≤◌, [], true, length, IfOk, IfErr, OnOk};
+ghost use Rattle.std.specs.Prelude.{◌≡◌, [], true, length, IfOk, IfErr, OnOk};
 ghost use Rattle.co_link.specs.declared.messages.Target.TheVariants as targets;
 ghost use Rattle.co_bfv.specs.Draws.{secret_draw};
 ghost use Rattle.co_rounds.specs.Answers.{reply_with};
-ghost use Rattle.co_wire.specs.Lengths.{reply_limit};
-ghost use Rattle.co_client.specs.Rounds.{Comes, RoundFails, LinkFails, keys_asked, keys_request};
+ghost use Rattle.co_client.specs.Rounds.{round_call, Comes, RoundFails, LinkFails, keys_asked, keys_request};
 
 use crate::asking::{LEAST_LIMIT, ask};
 use crate::fault::SearchFault;
@@ -28,7 +27,7 @@ pub struct Reader {
 
 impl Model for Reader {
     ghost use Rattle.std.specs.Prelude.{◌≡◌, length};
-    ghost use Rattle.co_client.specs.Rounds.{ReaderState};
+    ghost use Rattle.co_client.specs.Rounds.{round_call, ReaderState};
 
     ghost Value = { ReaderState };
 
@@ -45,6 +44,7 @@ impl Reader {
         &self.tested
     }
 
+    /// The secret whose keys the server has.
     pub fn secret(&self) -> &Secret
         ensures value { result.now ≡ self.now.secret }
         ensures degree { length self.now.secret ≡ self.now.shape.degree }
@@ -63,12 +63,20 @@ pub fn start<K: Link, R: Rng>(
     tested: &Tested,
 ) -> Result<Reader, SearchFault>
     requires { K.is_ready link.old ≡ true }
-    ensures reader { IfOk result (λ r. r ≡ record { shape = tested.now; secret = (secret_draw tested.now.degree (R.stream rng.old)).0 }) }
+    ensures reader { IfOk result
+        (λ r. r
+        ≡
+        record
+        { shape = tested.now; secret = (secret_draw tested.now.degree (R.stream rng.old)).0 }) }
     ensures rest { OnOk result (R.stream rng.new ≡ (keys_asked tested.now (R.stream rng.old)).1) }
-    ensures came { OnOk result (Comes (K.exchanges link.old) (K.exchanges link.new) (keys_request tested.now (R.stream rng.old)) (reply_with 200 [])) }
-    ensures refused { IfErr result (RoundFails 0 (K.exchanges link.old) (K.exchanges link.new) (keys_request tested.now (R.stream rng.old))) }
+    ensures came { OnOk result
+        (Comes (K.exchanges link.old) (K.exchanges link.new)
+        (keys_request tested.now (R.stream rng.old)) (reply_with 200 [])) }
+    ensures refused { IfErr result
+        (RoundFails 0 (K.exchanges link.old) (K.exchanges link.new)
+        (keys_request tested.now (R.stream rng.old))) }
     ensures cause { LinkFails (K.faults link.old) (K.faults link.new) (K.last_failed link.new)
-        (record { target = targets.Keys; limit = reply_limit tested.now targets.Keys }) result }
+        (round_call tested.now targets.Keys) result }
     ensures ready { K.is_ready link.new ≡ true }
     ensures beside { K.beside link.new ≡ K.beside link.old }
 {
@@ -82,19 +90,15 @@ pub fn start<K: Link, R: Rng>(
     let Ok(body) = write_keys(alloc, &keys) else {
         return Err(SearchFault::OutOfMemory);
     };
-    match ask(link, Target::Keys, body, LEAST_LIMIT) {
-        Err(fault) => Err(fault),
-        Ok(reply) => {
-            if !reply.is_empty() {
-                return Err(SearchFault::BadReply {
-                    target: Target::Keys,
-                    place: 0,
-                });
-            }
-            Ok(Reader {
-                tested: *tested,
-                secret,
-            })
-        }
+    let reply = ask(link, Target::Keys, body, LEAST_LIMIT)?;
+    if !reply.is_empty() {
+        return Err(SearchFault::BadReply {
+            target: Target::Keys,
+            place: 0,
+        });
     }
+    Ok(Reader {
+        tested: *tested,
+        secret,
+    })
 }

@@ -26,7 +26,7 @@ use Rattle.co_pir.specs.Messages.{query_polynomial}
 use Rattle.co_pir.specs.Tables.{Table, IsTable, row_bytes}
 use Rattle.co_pir.specs.Replies.{retrieved}
 use Rattle.co_pir.specs.Expansions.{expanded}
-use Rattle.co_pir.specs.Meanings.{AsksRow, CanRetrieve}
+use Rattle.co_pir.specs.Meanings.{AsksRow, CanRetrieve, MeansBytes}
 use Rattle.co_pir.specs.Openings.{opened_reply}
 use Rattle.co_pir.proofs.Retrieved.{retrieved_means}
 use Rattle.co_pir.proofs.Gathering.{table_reply-degrees, length-table_reply, piece-below}
@@ -155,27 +155,33 @@ module _ (l : Parts) (secret : List ℤ) (keys : Keys) (h : CanBeOpened l secret
   wrapped : IsWrapped l.shape.degree (signed_coefficients secret)
   wrapped = subst (λ (n : ℕ). IsWrapped n (signed_coefficients secret)) h.degree (secret-IsTernary secret h.is_secret).wrapped
 
-  -- what a table's reply opens to
-  opened : (t : Table) (query : Ciphertext) (row : ℕ) → IsTable t → t.degree ≡ l.shape.degree → log2_up t.rows ≤ length keys.expansions → 2 * retrieve_bound t.degree t.rows < q → AsksFor l.shape.degree secret query t.rows row
-      → IsPayload (row_bytes t row) (opened_reply secret (retrieved t keys query))
-  opened t query row table degree enough fits asks =
-      let s = signed_coefficients secret in
-      let can : CanRetrieve t keys query = record {
-        table = table;
-        key_set = h.keys_for.set;
-        whole = asks.cipher;
-        query_degree = asks.degree ∙ sym degree;
-        keys_of_degree = h.keys_for.degree ∙ sym degree;
-        enough_keys = enough;
-      } in
-      let asks_row : AsksRow s keys query t.rows row = record {
-        secret = subst (λ (k : ℕ). IsWrapped k s) (sym asks.degree) wrapped;
-        good = h.good.expansions;
-        within = asks.within;
-        asks = subst (λ (k : ℕ). MeansWithin s query (polynomial_of (query_polynomial k t.rows row)) fresh_bound) (sym asks.degree) asks.fresh;
-      } in
-      opened-means secret (retrieved t keys query) t.degree (retrieve_bound t.degree t.rows) (row_bytes t row) (table_reply-degrees t (expanded keys query (log2_up t.rows)) (retrieved t keys query) refl)
-      (retrieved_means t keys query can s row asks_row) fits
+  module _ (t : Table) (query : Ciphertext) (row : ℕ) (table : IsTable t) (degree : t.degree ≡ l.shape.degree) (enough : log2_up t.rows ≤ length keys.expansions)
+      (asks : AsksFor l.shape.degree secret query t.rows row) where
+    -- what a table's reply means
+    pub table_means : MeansBytes t.degree (signed_coefficients secret) (retrieved t keys query) (row_bytes t row) (retrieve_bound t.degree t.rows)
+    table_means =
+        let s = signed_coefficients secret in
+        let can : CanRetrieve t keys query = record {
+          table = table;
+          key_set = h.keys_for.set;
+          whole = asks.cipher;
+          query_degree = asks.degree ∙ sym degree;
+          keys_of_degree = h.keys_for.degree ∙ sym degree;
+          enough_keys = enough;
+        } in
+        let asks_row : AsksRow s keys query t.rows row = record {
+          secret = subst (λ (k : ℕ). IsWrapped k s) (sym asks.degree) wrapped;
+          good = h.good.expansions;
+          within = asks.within;
+          asks = subst (λ (k : ℕ). MeansWithin s query (polynomial_of (query_polynomial k t.rows row)) fresh_bound) (sym asks.degree) asks.fresh;
+        } in
+        retrieved_means t keys query can s row asks_row
+
+    -- what it opens to
+    opened : 2 * retrieve_bound t.degree t.rows < q → IsPayload (row_bytes t row) (opened_reply secret (retrieved t keys query))
+    opened fits =
+        opened-means secret (retrieved t keys query) t.degree (retrieve_bound t.degree t.rows) (row_bytes t row) (table_reply-degrees t (expanded keys query (log2_up t.rows)) (retrieved t keys query) refl)
+        table_means fits
 
   rows_keys : log2_up l.shape.rows ≤ length keys.expansions
   unfolding levels
@@ -189,7 +195,7 @@ module _ (l : Parts) (secret : List ℤ) (keys : Keys) (h : CanBeOpened l secret
       → IsPayload (row_bytes (bucket_table l bucket) row) (opened_reply secret (bucket_replies l.shape (gathered l keys queries) bucket))
   bucket_opened queries bucket row b asks =
       subst (λ (cs : List Ciphertext). IsPayload (row_bytes (bucket_table l bucket) row) (opened_reply secret cs)) (sym (gathered-at l keys queries bucket b))
-      (opened (bucket_table l bucket) (ciphertext_at queries bucket) row (is-bucket_table l h.library h.room bucket b) refl rows_keys h.room.records_fit asks)
+      (opened (bucket_table l bucket) (ciphertext_at queries bucket) row (is-bucket_table l h.library h.room bucket b) refl rows_keys asks h.room.records_fit)
 
   pub bin_opened : (query : Ciphertext) (bin : ℕ) → AsksFor l.shape.degree secret query l.shape.bins bin → IsPayload (row_bytes (bin_table l) bin) (opened_reply secret (retrieved (bin_table l) keys query))
-  bin_opened query bin asks = opened (bin_table l) query bin (is-bin_table l h.library h.room) refl bins_keys h.room.bins_fit asks
+  bin_opened query bin asks = opened (bin_table l) query bin (is-bin_table l h.library h.room) refl bins_keys asks h.room.bins_fit

@@ -6,8 +6,8 @@ use Rattle.co_client.proofs.reading.open_part.Goals as goal
 
 pub returns-in-Ok-clause-read : goal.returns-in-Ok-clause-read
 returns-in-Ok-clause-read c = λ cs all s.
-    opened-ok c.args.target c.args.reply (opened_reply c.args.secret.now (part_of (c.args.reply * c.args.count) c.args.count cs)) _ (c.in-Ok.ensures.whole cs all s) (c.in-Ok.ensures.bytes cs all s)
+    opened-ok c.args.target c.args.reply (opened_reply c.args.secret.now (part_of (c.args.reply * c.args.count) c.args.count cs)) _ (c.in-Ok.ensures.opened cs all s)
 
 pub returns-in-Err-NotByte-clause-read : goal.returns-in-Err-NotByte-clause-read
 returns-in-Err-NotByte-clause-read c = λ cs all s _.
-    opened-no c.args.target c.args.reply c.in-Err-NotByte.place (opened_reply c.args.secret.now (part_of (c.args.reply * c.args.count) c.args.count cs)) ((rw c.in-Err-NotByte.field-0-is at c.in-Err-NotByte.ensures.fault) cs all s)
+    opened-no c.args.target c.args.reply c.in-Err-NotByte.place (opened_reply c.args.secret.now (part_of (c.args.reply * c.args.count) c.args.count cs)) ((rw c.in-Err-NotByte.field-0-is at c.in-Err-NotByte.ensures.opened) cs all s)

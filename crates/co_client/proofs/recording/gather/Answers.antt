@@ -14,8 +14,8 @@ ask_ciphers-requires-clause-count g c =
 
 pub returns-clause-came : goal.returns-clause-came
 unfolding queries_request
-returns-clause-came g c = gives-asked c.args.reader.now.shape.degree _ _ _ _ Meta c.in-Ok.queries _ c.ask_ciphers.result (grind arith) c.in-Ok.ensures.body c.ask_ciphers.ensures.came
+returns-clause-came g c = gives-asked c.args.reader.now.shape.degree _ _ _ _ Meta c.in_ok-queries.queries _ c.ask_ciphers.result (grind arith) c.in_ok-queries.ensures.body c.ask_ciphers.ensures.came
 
 pub returns-clause-refused : goal.returns-clause-refused
 unfolding queries_request
-returns-clause-refused g c = fails-asked _ _ _ Meta c.in-Ok.queries _ c.ask_ciphers.result c.in-Ok.ensures.body c.ask_ciphers.ensures.refused
+returns-clause-refused g c = fails-asked _ _ _ Meta c.in_ok-queries.queries _ c.ask_ciphers.result c.in_ok-queries.ensures.body c.ask_ciphers.ensures.refused

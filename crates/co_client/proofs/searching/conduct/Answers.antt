@@ -1,278 +1,229 @@
-use Rattle.std.proofs.Common.{◌≡◌, ℕ, ◌<◌, refl, sym, ap, subst, ◌∙◌, arith, true, List, length, Result}
+use Rattle.std.proofs.Common.{◌≡◌, ℕ, ◌<◌, ◌≤◌, refl, sym, ap, subst, ◌∙◌, arith, true, List, length}
 use Rattle.std.specs.Prelude.{All}
+use Rattle.std.proofs.lemmas.Result.{err_from_is_err_and}
 use Rattle.co_text.specs.Terms.{terms}
 use Rattle.co_text.specs.Numbers.{numbers_of, unknown_in}
-use Rattle.co_text.specs.declared.found.Found.{Found}
 use Rattle.co_pack.specs.declared.records.Record.{Record}
 use Rattle.co_noise.specs.Shapes.{Numbers}
 use Rattle.co_noise.proofs.Ranges.{ranges}
+use Rattle.co_bucket.specs.Rows.{rows_of}
 use Rattle.co_rounds.specs.Recording.{is_within_bins}
-use Rattle.co_client.specs.declared.fault.SearchFault.{SearchFault}
-use Rattle.co_client.specs.Causes.{Search}
+use Rattle.co_client.specs.Causes.{Search, search_by}
 use Rattle.co_client.specs.Gathered.{with_bins}
 use Rattle.co_client.specs.Records.{picked_record, bin_asked}
-use Rattle.co_client.specs.Telling.{Told}
+use Rattle.co_client.specs.Rounds.{ReaderState}
 use Rattle.co_client.proofs.Chained.{terms-sorted}
-use Rattle.co_client.proofs.Ends.{many-told}
-use Rattle.co_client.proofs.Recorded.{Hits}
-use Rattle.co_client.proofs.Conducted.{begins, consult-told, start-told, rank-told, ranks, has-ranges, has-rows, records-unread, has-read, fetch-told, fetches, fetched-long, unread-told, no-memory-told, all-told, picked-within}
+use Rattle.co_client.proofs.Ends.{Begun, many-told}
+use Rattle.co_client.proofs.Spelled.{spelled-long}
+use Rattle.co_client.proofs.Conducted.{HasRanked, HasRead, begins, consult-told, start-told, rank-told, ranks, records-unread, has-read, fetch-told, fetches, shown-told, picked-within}
+use Rattle.co_client.proofs.searching.conduct.Given.{Over}
+use Rattle.co_client.proofs.searching.conduct.Goals.{In_ok-published, In_ok-ranked, After-bins-bins, In_ok-listed, After-bin_of-bin}
 use Rattle.co_client.proofs.searching.conduct.Goals as goal
 
-pub returns-in-Err-clause-told : goal.returns-in-Err-clause-told
-returns-in-Err-clause-told g c =
-    let run : Search = record { query = terms c.args.query.now; pick = c.args.pick; stream = g.R.Rng.stream c.args.rng.now; before = g.K.Link.faults c.args.link.now; now = g.K.Link.faults c.args.link.now; last_failed = g.K.Link.last_failed c.args.link.now } in
-    let was = g.K.Link.exchanges c.args.link.now in
-    many-told run was c.in-Err.fault c.in-Err.ensures.refused
+-- ---- what has come so far of a search that ends with this link
 
-pub returns-in-Err-clause-faults : goal.returns-in-Err-clause-faults
-returns-in-Err-clause-faults g c =
-    omega (arith)
+abbrev search-to : (g : Over) → List ℕ → ℕ → g.row.K → g.row.R → g.row.K → Search
+search-to g query pick link rng end = search_by (terms query) pick (g.R.Rng.stream rng) (g.K.Link.faults link) (g.K.Link.faults end) (g.K.Link.last_failed end)
 
-pub returns-in-Err-clause-ready : goal.returns-in-Err-clause-ready
-returns-in-Err-clause-ready g c =
-    c.requires.ready
+has-begun : (g : Over) (c : In_ok-published g) (end : g.row.K)
+    → Begun (search-to g c.args.query.now c.args.pick c.args.link.now c.args.rng.now end) (g.K.Link.exchanges c.args.link.now) (g.K.Link.exchanges c.consult.new.link)
+    c.in_ok-published.published.tested (numbers_of c.in_ok-published.published.terms c.in_ok-keywords.keywords) (unknown_in c.in_ok-published.published.terms c.in_ok-keywords.keywords)
+has-begun g c end = begins _ _ _ c.in_ok-keywords.keywords c.in_ok-published.published c.in_ok-keywords.ensures.found c.in_ok-keywords.ensures.few c.in_ok-published.ensures.found
 
-pub returns-in-Err-clause-beside : goal.returns-in-Err-clause-beside
-returns-in-Err-clause-beside g c =
-    refl
+has-ranked : (g : Over) (c : In_ok-ranked g) (end : g.row.K)
+    → Begun (search-to g c.args.query.now c.args.pick c.args.link.now c.args.rng.now end) (g.K.Link.exchanges c.args.link.now) (g.K.Link.exchanges c.consult.new.link)
+    c.in_ok-published.published.tested (numbers_of c.in_ok-published.published.terms c.in_ok-keywords.keywords) (unknown_in c.in_ok-published.published.terms c.in_ok-keywords.keywords)
+    → HasRanked (search-to g c.args.query.now c.args.pick c.args.link.now c.args.rng.now end) (g.K.Link.exchanges c.args.link.now) (g.K.Link.exchanges c.rank.new.link)
+    c.in_ok-reader.reader c.in_ok-ranked.ranked (g.R.Rng.stream c.rank.new.rng)
+has-ranked g c end begun =
+    ranks _ _ _ _ _ _ _ _ c.in_ok-reader.reader _ begun c.in_ok-reader.ensures.came c.in_ok-reader.ensures.reader c.in_ok-reader.ensures.rest c.in_ok-ranked.ranked _
+    c.in_ok-ranked.ensures.ranked c.in_ok-ranked.ensures.rest c.in_ok-ranked.ensures.few c.in_ok-ranked.ensures.unknown c.in_ok-ranked.ensures.placed
 
-pub returns-in-Err-consult-clause-told : goal.returns-in-Err-consult-clause-told
-returns-in-Err-consult-clause-told g c =
-    let run : Search = record { query = terms c.args.query.now; pick = c.args.pick; stream = g.R.Rng.stream c.args.rng.now; before = g.K.Link.faults c.args.link.now; now = g.K.Link.faults c.consult.new.link; last_failed = g.K.Link.last_failed c.consult.new.link } in
-    let was = g.K.Link.exchanges c.args.link.now in
-    consult-told run was (g.K.Link.exchanges c.consult.new.link) c.in-Ok.keywords c.in-Err-consult.fault (g.R.Rng.stream c.args.rng.now) c.in-Ok.ensures.found c.in-Ok.ensures.few c.in-Err-consult.ensures.refused c.in-Err-consult.ensures.cause
+-- places are measured with the reader's bins
+bins-are : (g : Over) (c : After-bins-bins g) → c.bins-bins.result ≡ c.in_ok-reader.reader.shape.bins
+bins-are g c = c.bins-bins.ensures ∙ ap (λ (x : Numbers). x.bins) (c.shape.ensures.value ∙ c.tested.ensures)
 
-pub returns-in-Err-consult-clause-faults : goal.returns-in-Err-consult-clause-faults
-returns-in-Err-consult-clause-faults g c =
-    omega (arith, c.consult.ensures.cause.later)
+within : (g : Over) (c : In_ok-listed g) → c.bins-bins.result ≡ c.in_ok-reader.reader.shape.bins → All (λ r. is_within_bins c.in_ok-reader.reader.shape r.place ≡ true) c.in_ok-listed.listed
+within g c bins = subst (λ (k : ℕ). All (λ r. is_within_bins (with_bins c.in_ok-reader.reader.shape k) r.place ≡ true) c.in_ok-listed.listed) bins c.in_ok-listed.ensures.within
 
-pub returns-in-Err-consult-clause-ready : goal.returns-in-Err-consult-clause-ready
-returns-in-Err-consult-clause-ready g c =
-    c.consult.ensures.ready
+has-records : (g : Over) (c : In_ok-listed g) (end : g.row.K)
+    → HasRanked (search-to g c.args.query.now c.args.pick c.args.link.now c.args.rng.now end) (g.K.Link.exchanges c.args.link.now) (g.K.Link.exchanges c.rank.new.link)
+    c.in_ok-reader.reader c.in_ok-ranked.ranked (g.R.Rng.stream c.rank.new.rng)
+    → c.bins-bins.result ≡ c.in_ok-reader.reader.shape.bins
+    → HasRead (search-to g c.args.query.now c.args.pick c.args.link.now c.args.rng.now end) (g.K.Link.exchanges c.args.link.now) (g.K.Link.exchanges c.records.new.link)
+    c.in_ok-reader.reader c.in_ok-ranked.ranked c.in_ok-listed.listed (g.R.Rng.stream c.records.new.rng)
+has-records g c end ranked bins = has-read _ _ _ _ _ _ ranked _ c.bins-bins.result c.in_ok-listed.listed _ bins c.in_ok-listed.ensures.read c.in_ok-listed.ensures.rest
 
-pub returns-in-Err-consult-clause-beside : goal.returns-in-Err-consult-clause-beside
-returns-in-Err-consult-clause-beside g c =
-    c.consult.ensures.beside
+bin-is : (g : Over) (c : After-bin_of-bin g) → c.bin_of-bin.result ≡ bin_asked (picked_record c.in_ok-listed.listed c.args.pick)
+bin-is g c = c.bin_of-bin.ensures ∙ ap (λ (rs : List Record). bin_asked (picked_record rs c.args.pick)) c.as_slice-read.ensures
 
-pub returns-in-Err-start-clause-told : goal.returns-in-Err-start-clause-told
-returns-in-Err-start-clause-told g c =
-    let run : Search = record { query = terms c.args.query.now; pick = c.args.pick; stream = g.R.Rng.stream c.args.rng.now; before = g.K.Link.faults c.args.link.now; now = g.K.Link.faults c.start.new.link; last_failed = g.K.Link.last_failed c.start.new.link } in
-    let was = g.K.Link.exchanges c.args.link.now in
-    let begun = begins run was (g.K.Link.exchanges c.consult.new.link) c.in-Ok.keywords c.in-Ok-consult.published c.in-Ok.ensures.found c.in-Ok.ensures.few c.in-Ok-consult.ensures.found in
-    start-told run was (g.K.Link.exchanges c.consult.new.link) (g.K.Link.exchanges c.start.new.link) c.in-Ok-consult.published.tested (numbers_of c.in-Ok-consult.published.terms c.in-Ok.keywords) (unknown_in c.in-Ok-consult.published.terms c.in-Ok.keywords) (g.K.Link.faults c.consult.new.link) c.in-Err-start.fault (g.R.Rng.stream c.start.new.rng) begun c.in-Err-start.ensures.refused c.in-Err-start.ensures.cause c.consult.ensures.cause.later
+-- ---- where it ends
 
-pub returns-in-Err-start-clause-faults : goal.returns-in-Err-start-clause-faults
-returns-in-Err-start-clause-faults g c =
-    omega (arith, c.consult.ensures.cause.later, c.start.ensures.cause.later)
+pub returns-in_err-keywords-clause-told : goal.returns-in_err-keywords-clause-told
+returns-in_err-keywords-clause-told g c =
+    let p = err_from_is_err_and c.from_residual.result c.from_residual.ensures.1 in
+    rw (p.1, p.2)
+    (many-told (search-to g c.args.query.now c.args.pick c.args.link.now c.args.rng.now c.args.link.now) _ c.in_err-keywords.field-0.0 c.in_err-keywords.ensures.refused)
 
-pub returns-in-Err-start-clause-ready : goal.returns-in-Err-start-clause-ready
-returns-in-Err-start-clause-ready g c =
-    c.start.ensures.ready
+pub returns-in_err-keywords-clause-faults : goal.returns-in_err-keywords-clause-faults
+returns-in_err-keywords-clause-faults g c = omega (arith)
 
-pub returns-in-Err-start-clause-beside : goal.returns-in-Err-start-clause-beside
-returns-in-Err-start-clause-beside g c =
-    c.start.ensures.beside ∙ c.consult.ensures.beside
+pub returns-in_err-keywords-clause-ready : goal.returns-in_err-keywords-clause-ready
+returns-in_err-keywords-clause-ready g c = c.requires.ready
 
-pub returns-in-Err-rank-clause-told : goal.returns-in-Err-rank-clause-told
-returns-in-Err-rank-clause-told g c =
-    let run : Search = record { query = terms c.args.query.now; pick = c.args.pick; stream = g.R.Rng.stream c.args.rng.now; before = g.K.Link.faults c.args.link.now; now = g.K.Link.faults c.rank.new.link; last_failed = g.K.Link.last_failed c.rank.new.link } in
-    let was = g.K.Link.exchanges c.args.link.now in
-    let begun = begins run was (g.K.Link.exchanges c.consult.new.link) c.in-Ok.keywords c.in-Ok-consult.published c.in-Ok.ensures.found c.in-Ok.ensures.few c.in-Ok-consult.ensures.found in
-    rank-told run was (g.K.Link.exchanges c.consult.new.link) (g.K.Link.exchanges c.start.new.link) (g.K.Link.exchanges c.rank.new.link) c.in-Ok-consult.published.tested (numbers_of c.in-Ok-consult.published.terms c.in-Ok.keywords) (unknown_in c.in-Ok-consult.published.terms c.in-Ok.keywords) c.in-Ok-start.reader (g.R.Rng.stream c.start.new.rng) begun c.in-Ok-start.ensures.came c.in-Ok-start.ensures.reader c.in-Ok-start.ensures.rest (g.K.Link.faults c.start.new.link) c.in-Err-rank.fault (g.R.Rng.stream c.rank.new.rng) c.in-Err-rank.ensures.refused c.in-Err-rank.ensures.cause (omega (arith, c.consult.ensures.cause.later, c.start.ensures.cause.later))
+pub returns-in_err-keywords-clause-beside : goal.returns-in_err-keywords-clause-beside
+returns-in_err-keywords-clause-beside g c = refl
 
-pub returns-in-Err-rank-clause-faults : goal.returns-in-Err-rank-clause-faults
-returns-in-Err-rank-clause-faults g c =
-    omega (arith, c.consult.ensures.cause.later, c.start.ensures.cause.later, c.rank.ensures.cause.later)
+pub returns-in_err-published-clause-told : goal.returns-in_err-published-clause-told
+returns-in_err-published-clause-told g c =
+    let p = err_from_is_err_and c.from_residual-in_err-published.result c.from_residual-in_err-published.ensures.1 in
+    rw (p.1, p.2)
+    (consult-told _ _ _ c.in_ok-keywords.keywords c.in_err-published.field-0.0 _ c.in_ok-keywords.ensures.found c.in_ok-keywords.ensures.few c.in_err-published.ensures.refused c.in_err-published.ensures.cause)
 
-pub returns-in-Err-rank-clause-ready : goal.returns-in-Err-rank-clause-ready
-returns-in-Err-rank-clause-ready g c =
-    c.rank.ensures.ready
+pub returns-in_err-published-clause-faults : goal.returns-in_err-published-clause-faults
+returns-in_err-published-clause-faults g c = c.consult.ensures.cause.later
 
-pub returns-in-Err-rank-clause-beside : goal.returns-in-Err-rank-clause-beside
-returns-in-Err-rank-clause-beside g c =
-    c.rank.ensures.beside ∙ c.start.ensures.beside ∙ c.consult.ensures.beside
+pub returns-in_err-published-clause-ready : goal.returns-in_err-published-clause-ready
+returns-in_err-published-clause-ready g c = c.consult.ensures.ready
 
-pub returns-in-Err-records-clause-told : goal.returns-in-Err-records-clause-told
-returns-in-Err-records-clause-told g c =
-    let run : Search = record { query = terms c.args.query.now; pick = c.args.pick; stream = g.R.Rng.stream c.args.rng.now; before = g.K.Link.faults c.args.link.now; now = g.K.Link.faults c.records.new.link; last_failed = g.K.Link.last_failed c.records.new.link } in
-    let was = g.K.Link.exchanges c.args.link.now in
-    let begun = begins run was (g.K.Link.exchanges c.consult.new.link) c.in-Ok.keywords c.in-Ok-consult.published c.in-Ok.ensures.found c.in-Ok.ensures.few c.in-Ok-consult.ensures.found in
-    let ranked = ranks run was (g.K.Link.exchanges c.consult.new.link) (g.K.Link.exchanges c.start.new.link) (g.K.Link.exchanges c.rank.new.link) c.in-Ok-consult.published.tested (numbers_of c.in-Ok-consult.published.terms c.in-Ok.keywords) (unknown_in c.in-Ok-consult.published.terms c.in-Ok.keywords) c.in-Ok-start.reader (g.R.Rng.stream c.start.new.rng) begun c.in-Ok-start.ensures.came c.in-Ok-start.ensures.reader c.in-Ok-start.ensures.rest c.in-Ok-rank.ranked (g.R.Rng.stream c.rank.new.rng) c.in-Ok-rank.ensures.ranked c.in-Ok-rank.ensures.rest c.in-Ok-rank.ensures.few c.in-Ok-rank.ensures.unknown c.in-Ok-rank.ensures.placed in
-    let bins_is : c.bins-bins.result ≡ c.in-Ok-start.reader.shape.bins = c.bins-bins.ensures ∙ ap (λ (x : Numbers). x.bins) (c.shape.ensures.value ∙ c.tested.ensures) in
-    records-unread run was (g.K.Link.exchanges c.rank.new.link) c.in-Ok-start.reader c.in-Ok-rank.ranked (g.R.Rng.stream c.rank.new.rng) ranked (g.K.Link.exchanges c.records.new.link) c.bins-bins.result (g.K.Link.faults c.rank.new.link) c.in-Err-records.fault (g.R.Rng.stream c.records.new.rng) bins_is c.in-Err-records.ensures.refused c.in-Err-records.ensures.cause (omega (arith, c.consult.ensures.cause.later, c.start.ensures.cause.later, c.rank.ensures.cause.later))
+pub returns-in_err-published-clause-beside : goal.returns-in_err-published-clause-beside
+returns-in_err-published-clause-beside g c = c.consult.ensures.beside
 
-pub returns-in-Err-records-clause-faults : goal.returns-in-Err-records-clause-faults
-returns-in-Err-records-clause-faults g c =
-    omega (arith, c.consult.ensures.cause.later, c.start.ensures.cause.later, c.rank.ensures.cause.later, c.records.ensures.cause.later)
+pub returns-in_err-reader-clause-told : goal.returns-in_err-reader-clause-told
+returns-in_err-reader-clause-told g c =
+    let p = err_from_is_err_and c.from_residual-in_err-reader.result c.from_residual-in_err-reader.ensures.1 in
+    let at = goal.at.returns-in_err-reader-clause-told g c in
+    rw (p.1, p.2)
+    (start-told _ _ _ _ _ _ _ _ c.in_err-reader.field-0.0 _ (has-begun g at.In_ok-published c.start.new.link) c.in_err-reader.ensures.refused c.in_err-reader.ensures.cause c.consult.ensures.cause.later)
 
-pub returns-in-Err-records-clause-ready : goal.returns-in-Err-records-clause-ready
-returns-in-Err-records-clause-ready g c =
-    c.records.ensures.ready
+pub returns-in_err-reader-clause-faults : goal.returns-in_err-reader-clause-faults
+returns-in_err-reader-clause-faults g c = omega (arith, c.consult.ensures.cause.later, c.start.ensures.cause.later)
 
-pub returns-in-Err-records-clause-beside : goal.returns-in-Err-records-clause-beside
-returns-in-Err-records-clause-beside g c =
-    c.records.ensures.beside ∙ c.rank.ensures.beside ∙ c.start.ensures.beside ∙ c.consult.ensures.beside
+pub returns-in_err-reader-clause-ready : goal.returns-in_err-reader-clause-ready
+returns-in_err-reader-clause-ready g c = c.start.ensures.ready
 
-pub returns-in-Err-fetch-clause-told : goal.returns-in-Err-fetch-clause-told
-returns-in-Err-fetch-clause-told g c =
-    let run : Search = record { query = terms c.args.query.now; pick = c.args.pick; stream = g.R.Rng.stream c.args.rng.now; before = g.K.Link.faults c.args.link.now; now = g.K.Link.faults c.fetch.new.link; last_failed = g.K.Link.last_failed c.fetch.new.link } in
-    let was = g.K.Link.exchanges c.args.link.now in
-    let begun = begins run was (g.K.Link.exchanges c.consult.new.link) c.in-Ok.keywords c.in-Ok-consult.published c.in-Ok.ensures.found c.in-Ok.ensures.few c.in-Ok-consult.ensures.found in
-    let ranked = ranks run was (g.K.Link.exchanges c.consult.new.link) (g.K.Link.exchanges c.start.new.link) (g.K.Link.exchanges c.rank.new.link) c.in-Ok-consult.published.tested (numbers_of c.in-Ok-consult.published.terms c.in-Ok.keywords) (unknown_in c.in-Ok-consult.published.terms c.in-Ok.keywords) c.in-Ok-start.reader (g.R.Rng.stream c.start.new.rng) begun c.in-Ok-start.ensures.came c.in-Ok-start.ensures.reader c.in-Ok-start.ensures.rest c.in-Ok-rank.ranked (g.R.Rng.stream c.rank.new.rng) c.in-Ok-rank.ensures.ranked c.in-Ok-rank.ensures.rest c.in-Ok-rank.ensures.few c.in-Ok-rank.ensures.unknown c.in-Ok-rank.ensures.placed in
-    let bins_is : c.bins-bins.result ≡ c.in-Ok-start.reader.shape.bins = c.bins-bins.ensures ∙ ap (λ (x : Numbers). x.bins) (c.shape.ensures.value ∙ c.tested.ensures) in
-    let read = has-read run was (g.K.Link.exchanges c.rank.new.link) c.in-Ok-start.reader c.in-Ok-rank.ranked (g.R.Rng.stream c.rank.new.rng) ranked (g.K.Link.exchanges c.records.new.link) c.bins-bins.result c.in-Ok-records.listed (g.R.Rng.stream c.records.new.rng) bins_is c.in-Ok-records.ensures.read c.in-Ok-records.ensures.rest in
-    let bin_is : c.bin_of-bin.result ≡ bin_asked (picked_record c.in-Ok-records.listed c.args.pick) = c.bin_of-bin.ensures ∙ ap (λ (rs : List Record). bin_asked (picked_record rs c.args.pick)) c.as_slice-read.ensures in
-    fetch-told run was (g.K.Link.exchanges c.records.new.link) c.in-Ok-start.reader c.in-Ok-rank.ranked c.in-Ok-records.listed (g.R.Rng.stream c.records.new.rng) read (g.K.Link.exchanges c.fetch.new.link) c.bin_of-bin.result (g.K.Link.faults c.records.new.link) c.in-Err-fetch.fault (g.R.Rng.stream c.fetch.new.rng) bin_is c.in-Err-fetch.ensures.refused c.in-Err-fetch.ensures.cause (omega (arith, c.consult.ensures.cause.later, c.start.ensures.cause.later, c.rank.ensures.cause.later, c.records.ensures.cause.later))
+pub returns-in_err-reader-clause-beside : goal.returns-in_err-reader-clause-beside
+returns-in_err-reader-clause-beside g c = c.start.ensures.beside ∙ c.consult.ensures.beside
 
-pub returns-in-Err-fetch-clause-faults : goal.returns-in-Err-fetch-clause-faults
-returns-in-Err-fetch-clause-faults g c =
+pub returns-in_err-ranked-clause-told : goal.returns-in_err-ranked-clause-told
+returns-in_err-ranked-clause-told g c =
+    let p = err_from_is_err_and c.from_residual-in_err-ranked.result c.from_residual-in_err-ranked.ensures.1 in
+    let at = goal.at.returns-in_err-ranked-clause-told g c in
+    rw (p.1, p.2)
+    (rank-told _ _ _ _ _ _ _ _ c.in_ok-reader.reader _ (has-begun g at.In_ok-published c.rank.new.link) c.in_ok-reader.ensures.came c.in_ok-reader.ensures.reader c.in_ok-reader.ensures.rest _ c.in_err-ranked.field-0.0 _
+    c.in_err-ranked.ensures.refused c.in_err-ranked.ensures.cause (omega (arith, c.consult.ensures.cause.later, c.start.ensures.cause.later)))
+
+pub returns-in_err-ranked-clause-faults : goal.returns-in_err-ranked-clause-faults
+returns-in_err-ranked-clause-faults g c = omega (arith, c.consult.ensures.cause.later, c.start.ensures.cause.later, c.rank.ensures.cause.later)
+
+pub returns-in_err-ranked-clause-ready : goal.returns-in_err-ranked-clause-ready
+returns-in_err-ranked-clause-ready g c = c.rank.ensures.ready
+
+pub returns-in_err-ranked-clause-beside : goal.returns-in_err-ranked-clause-beside
+returns-in_err-ranked-clause-beside g c = c.rank.ensures.beside ∙ c.start.ensures.beside ∙ c.consult.ensures.beside
+
+pub returns-in_err-listed-clause-told : goal.returns-in_err-listed-clause-told
+returns-in_err-listed-clause-told g c =
+    let p = err_from_is_err_and c.from_residual-in_err-listed.result c.from_residual-in_err-listed.ensures.1 in
+    let at = goal.at.returns-in_err-listed-clause-told g c in
+    let end = c.records.new.link in
+    let ranked = has-ranked g at.In_ok-ranked end (has-begun g at.In_ok-published end) in
+    rw (p.1, p.2)
+    (records-unread _ _ _ _ _ _ ranked _ _ _ c.in_err-listed.field-0.0 _ (bins-are g at.After-bins-bins) c.in_err-listed.ensures.refused c.in_err-listed.ensures.cause
+    (omega (arith, c.consult.ensures.cause.later, c.start.ensures.cause.later, c.rank.ensures.cause.later)))
+
+pub returns-in_err-listed-clause-faults : goal.returns-in_err-listed-clause-faults
+returns-in_err-listed-clause-faults g c = omega (arith, c.consult.ensures.cause.later, c.start.ensures.cause.later, c.rank.ensures.cause.later, c.records.ensures.cause.later)
+
+pub returns-in_err-listed-clause-ready : goal.returns-in_err-listed-clause-ready
+returns-in_err-listed-clause-ready g c = c.records.ensures.ready
+
+pub returns-in_err-listed-clause-beside : goal.returns-in_err-listed-clause-beside
+returns-in_err-listed-clause-beside g c = c.records.ensures.beside ∙ c.rank.ensures.beside ∙ c.start.ensures.beside ∙ c.consult.ensures.beside
+
+pub returns-in_err-chunks-clause-told : goal.returns-in_err-chunks-clause-told
+returns-in_err-chunks-clause-told g c =
+    let p = err_from_is_err_and c.from_residual-in_err-chunks.result c.from_residual-in_err-chunks.ensures.1 in
+    let at = goal.at.returns-in_err-chunks-clause-told g c in
+    let end = c.fetch.new.link in
+    let ranked = has-ranked g at.In_ok-ranked end (has-begun g at.In_ok-published end) in
+    let read = has-records g at.In_ok-listed end ranked (bins-are g at.After-bins-bins) in
+    rw (p.1, p.2)
+    (fetch-told _ _ _ _ _ _ _ read _ _ _ c.in_err-chunks.field-0.0 _ (bin-is g at.After-bin_of-bin) c.in_err-chunks.ensures.refused c.in_err-chunks.ensures.cause
+    (omega (arith, c.consult.ensures.cause.later, c.start.ensures.cause.later, c.rank.ensures.cause.later, c.records.ensures.cause.later)))
+
+pub returns-in_err-chunks-clause-faults : goal.returns-in_err-chunks-clause-faults
+returns-in_err-chunks-clause-faults g c =
     omega (arith, c.consult.ensures.cause.later, c.start.ensures.cause.later, c.rank.ensures.cause.later, c.records.ensures.cause.later, c.fetch.ensures.cause.later)
 
-pub returns-in-Err-fetch-clause-ready : goal.returns-in-Err-fetch-clause-ready
-returns-in-Err-fetch-clause-ready g c =
-    c.fetch.ensures.ready
+pub returns-in_err-chunks-clause-ready : goal.returns-in_err-chunks-clause-ready
+returns-in_err-chunks-clause-ready g c = c.fetch.ensures.ready
 
-pub returns-in-Err-fetch-clause-beside : goal.returns-in-Err-fetch-clause-beside
-returns-in-Err-fetch-clause-beside g c =
-    c.fetch.ensures.beside ∙ c.records.ensures.beside ∙ c.rank.ensures.beside ∙ c.start.ensures.beside ∙ c.consult.ensures.beside
-
-pub returns-in-Err-read_document-clause-told : goal.returns-in-Err-read_document-clause-told
-returns-in-Err-read_document-clause-told g c =
-    let run : Search = record { query = terms c.args.query.now; pick = c.args.pick; stream = g.R.Rng.stream c.args.rng.now; before = g.K.Link.faults c.args.link.now; now = g.K.Link.faults c.fetch.new.link; last_failed = g.K.Link.last_failed c.fetch.new.link } in
-    let was = g.K.Link.exchanges c.args.link.now in
-    let begun = begins run was (g.K.Link.exchanges c.consult.new.link) c.in-Ok.keywords c.in-Ok-consult.published c.in-Ok.ensures.found c.in-Ok.ensures.few c.in-Ok-consult.ensures.found in
-    let ranked = ranks run was (g.K.Link.exchanges c.consult.new.link) (g.K.Link.exchanges c.start.new.link) (g.K.Link.exchanges c.rank.new.link) c.in-Ok-consult.published.tested (numbers_of c.in-Ok-consult.published.terms c.in-Ok.keywords) (unknown_in c.in-Ok-consult.published.terms c.in-Ok.keywords) c.in-Ok-start.reader (g.R.Rng.stream c.start.new.rng) begun c.in-Ok-start.ensures.came c.in-Ok-start.ensures.reader c.in-Ok-start.ensures.rest c.in-Ok-rank.ranked (g.R.Rng.stream c.rank.new.rng) c.in-Ok-rank.ensures.ranked c.in-Ok-rank.ensures.rest c.in-Ok-rank.ensures.few c.in-Ok-rank.ensures.unknown c.in-Ok-rank.ensures.placed in
-    let bins_is : c.bins-bins.result ≡ c.in-Ok-start.reader.shape.bins = c.bins-bins.ensures ∙ ap (λ (x : Numbers). x.bins) (c.shape.ensures.value ∙ c.tested.ensures) in
-    let read = has-read run was (g.K.Link.exchanges c.rank.new.link) c.in-Ok-start.reader c.in-Ok-rank.ranked (g.R.Rng.stream c.rank.new.rng) ranked (g.K.Link.exchanges c.records.new.link) c.bins-bins.result c.in-Ok-records.listed (g.R.Rng.stream c.records.new.rng) bins_is c.in-Ok-records.ensures.read c.in-Ok-records.ensures.rest in
-    let bin_is : c.bin_of-bin.result ≡ bin_asked (picked_record c.in-Ok-records.listed c.args.pick) = c.bin_of-bin.ensures ∙ ap (λ (rs : List Record). bin_asked (picked_record rs c.args.pick)) c.as_slice-read.ensures in
-    let fetched = fetches run was (g.K.Link.exchanges c.records.new.link) c.in-Ok-start.reader c.in-Ok-rank.ranked c.in-Ok-records.listed (g.R.Rng.stream c.records.new.rng) read (g.K.Link.exchanges c.fetch.new.link) c.bin_of-bin.result c.in-Ok-fetch.chunks (g.R.Rng.stream c.fetch.new.rng) bin_is c.in-Ok-fetch.ensures.came c.in-Ok-fetch.ensures.rest in
-    unread-told run was (g.K.Link.exchanges c.records.new.link) c.in-Ok-start.reader c.in-Ok-rank.ranked c.in-Ok-records.listed (g.R.Rng.stream c.records.new.rng) read (g.K.Link.exchanges c.fetch.new.link) c.in-Ok-fetch.chunks (g.R.Rng.stream c.fetch.new.rng) fetched c.as_slice-body.result.now c.as_slice-read.result.now c.in-Err-read_document.fault (g.R.Rng.stream c.fetch.new.rng) c.as_slice-body.ensures c.as_slice-read.ensures c.in-Err-read_document.ensures
-
-pub returns-in-Err-read_document-clause-faults : goal.returns-in-Err-read_document-clause-faults
-returns-in-Err-read_document-clause-faults g c =
-    omega (arith, c.consult.ensures.cause.later, c.start.ensures.cause.later, c.rank.ensures.cause.later, c.records.ensures.cause.later, c.fetch.ensures.cause.later)
-
-pub returns-in-Err-read_document-clause-ready : goal.returns-in-Err-read_document-clause-ready
-returns-in-Err-read_document-clause-ready g c =
-    c.fetch.ensures.ready
-
-pub returns-in-Err-read_document-clause-beside : goal.returns-in-Err-read_document-clause-beside
-returns-in-Err-read_document-clause-beside g c =
-    c.fetch.ensures.beside ∙ c.records.ensures.beside ∙ c.rank.ensures.beside ∙ c.start.ensures.beside ∙ c.consult.ensures.beside
-
-pub returns-in_default-clause-told : goal.returns-in_default-clause-told
-returns-in_default-clause-told g c =
-    let run : Search = record { query = terms c.args.query.now; pick = c.args.pick; stream = g.R.Rng.stream c.args.rng.now; before = g.K.Link.faults c.args.link.now; now = g.K.Link.faults c.fetch.new.link; last_failed = g.K.Link.last_failed c.fetch.new.link } in
-    let was = g.K.Link.exchanges c.args.link.now in
-    let begun = begins run was (g.K.Link.exchanges c.consult.new.link) c.in-Ok.keywords c.in-Ok-consult.published c.in-Ok.ensures.found c.in-Ok.ensures.few c.in-Ok-consult.ensures.found in
-    let ranked = ranks run was (g.K.Link.exchanges c.consult.new.link) (g.K.Link.exchanges c.start.new.link) (g.K.Link.exchanges c.rank.new.link) c.in-Ok-consult.published.tested (numbers_of c.in-Ok-consult.published.terms c.in-Ok.keywords) (unknown_in c.in-Ok-consult.published.terms c.in-Ok.keywords) c.in-Ok-start.reader (g.R.Rng.stream c.start.new.rng) begun c.in-Ok-start.ensures.came c.in-Ok-start.ensures.reader c.in-Ok-start.ensures.rest c.in-Ok-rank.ranked (g.R.Rng.stream c.rank.new.rng) c.in-Ok-rank.ensures.ranked c.in-Ok-rank.ensures.rest c.in-Ok-rank.ensures.few c.in-Ok-rank.ensures.unknown c.in-Ok-rank.ensures.placed in
-    let bins_is : c.bins-bins.result ≡ c.in-Ok-start.reader.shape.bins = c.bins-bins.ensures ∙ ap (λ (x : Numbers). x.bins) (c.shape.ensures.value ∙ c.tested.ensures) in
-    let read = has-read run was (g.K.Link.exchanges c.rank.new.link) c.in-Ok-start.reader c.in-Ok-rank.ranked (g.R.Rng.stream c.rank.new.rng) ranked (g.K.Link.exchanges c.records.new.link) c.bins-bins.result c.in-Ok-records.listed (g.R.Rng.stream c.records.new.rng) bins_is c.in-Ok-records.ensures.read c.in-Ok-records.ensures.rest in
-    let bin_is : c.bin_of-bin.result ≡ bin_asked (picked_record c.in-Ok-records.listed c.args.pick) = c.bin_of-bin.ensures ∙ ap (λ (rs : List Record). bin_asked (picked_record rs c.args.pick)) c.as_slice-read.ensures in
-    let fetched = fetches run was (g.K.Link.exchanges c.records.new.link) c.in-Ok-start.reader c.in-Ok-rank.ranked c.in-Ok-records.listed (g.R.Rng.stream c.records.new.rng) read (g.K.Link.exchanges c.fetch.new.link) c.bin_of-bin.result c.in-Ok-fetch.chunks (g.R.Rng.stream c.fetch.new.rng) bin_is c.in-Ok-fetch.ensures.came c.in-Ok-fetch.ensures.rest in
-    no-memory-told run was (g.K.Link.exchanges c.records.new.link) c.in-Ok-start.reader c.in-Ok-rank.ranked c.in-Ok-records.listed (g.R.Rng.stream c.records.new.rng) read (g.K.Link.exchanges c.fetch.new.link) c.in-Ok-fetch.chunks (g.R.Rng.stream c.fetch.new.rng) fetched (g.R.Rng.stream c.fetch.new.rng)
-
-pub returns-in_default-clause-faults : goal.returns-in_default-clause-faults
-returns-in_default-clause-faults g c =
-    omega (arith, c.consult.ensures.cause.later, c.start.ensures.cause.later, c.rank.ensures.cause.later, c.records.ensures.cause.later, c.fetch.ensures.cause.later)
-
-pub returns-in_default-clause-ready : goal.returns-in_default-clause-ready
-returns-in_default-clause-ready g c =
-    c.fetch.ensures.ready
-
-pub returns-in_default-clause-beside : goal.returns-in_default-clause-beside
-returns-in_default-clause-beside g c =
-    c.fetch.ensures.beside ∙ c.records.ensures.beside ∙ c.rank.ensures.beside ∙ c.start.ensures.beside ∙ c.consult.ensures.beside
+pub returns-in_err-chunks-clause-beside : goal.returns-in_err-chunks-clause-beside
+returns-in_err-chunks-clause-beside g c = c.fetch.ensures.beside ∙ c.records.ensures.beside ∙ c.rank.ensures.beside ∙ c.start.ensures.beside ∙ c.consult.ensures.beside
 
 pub returns-clause-told : goal.returns-clause-told
 returns-clause-told g c =
-    let run : Search = record { query = terms c.args.query.now; pick = c.args.pick; stream = g.R.Rng.stream c.args.rng.now; before = g.K.Link.faults c.args.link.now; now = g.K.Link.faults c.fetch.new.link; last_failed = g.K.Link.last_failed c.fetch.new.link } in
-    let was = g.K.Link.exchanges c.args.link.now in
-    let begun = begins run was (g.K.Link.exchanges c.consult.new.link) c.in-Ok.keywords c.in-Ok-consult.published c.in-Ok.ensures.found c.in-Ok.ensures.few c.in-Ok-consult.ensures.found in
-    let ranked = ranks run was (g.K.Link.exchanges c.consult.new.link) (g.K.Link.exchanges c.start.new.link) (g.K.Link.exchanges c.rank.new.link) c.in-Ok-consult.published.tested (numbers_of c.in-Ok-consult.published.terms c.in-Ok.keywords) (unknown_in c.in-Ok-consult.published.terms c.in-Ok.keywords) c.in-Ok-start.reader (g.R.Rng.stream c.start.new.rng) begun c.in-Ok-start.ensures.came c.in-Ok-start.ensures.reader c.in-Ok-start.ensures.rest c.in-Ok-rank.ranked (g.R.Rng.stream c.rank.new.rng) c.in-Ok-rank.ensures.ranked c.in-Ok-rank.ensures.rest c.in-Ok-rank.ensures.few c.in-Ok-rank.ensures.unknown c.in-Ok-rank.ensures.placed in
-    let bins_is : c.bins-bins.result ≡ c.in-Ok-start.reader.shape.bins = c.bins-bins.ensures ∙ ap (λ (x : Numbers). x.bins) (c.shape.ensures.value ∙ c.tested.ensures) in
-    let read = has-read run was (g.K.Link.exchanges c.rank.new.link) c.in-Ok-start.reader c.in-Ok-rank.ranked (g.R.Rng.stream c.rank.new.rng) ranked (g.K.Link.exchanges c.records.new.link) c.bins-bins.result c.in-Ok-records.listed (g.R.Rng.stream c.records.new.rng) bins_is c.in-Ok-records.ensures.read c.in-Ok-records.ensures.rest in
-    let bin_is : c.bin_of-bin.result ≡ bin_asked (picked_record c.in-Ok-records.listed c.args.pick) = c.bin_of-bin.ensures ∙ ap (λ (rs : List Record). bin_asked (picked_record rs c.args.pick)) c.as_slice-read.ensures in
-    let fetched = fetches run was (g.K.Link.exchanges c.records.new.link) c.in-Ok-start.reader c.in-Ok-rank.ranked c.in-Ok-records.listed (g.R.Rng.stream c.records.new.rng) read (g.K.Link.exchanges c.fetch.new.link) c.bin_of-bin.result c.in-Ok-fetch.chunks (g.R.Rng.stream c.fetch.new.rng) bin_is c.in-Ok-fetch.ensures.came c.in-Ok-fetch.ensures.rest in
-    let answer : Found = record { hits = c.in-Ok-with_titles.titled; unknown = c.in-Ok-rank.ranked.unknown; document = c.in-Ok-read_document.document } in
-    subst (λ (r : Result Found SearchFault). Told run was (g.K.Link.exchanges c.fetch.new.link) r (g.R.Rng.stream c.fetch.new.rng)) (sym c.conclude.ensures)
-    (all-told run was (g.K.Link.exchanges c.records.new.link) c.in-Ok-start.reader c.in-Ok-rank.ranked c.in-Ok-records.listed (g.R.Rng.stream c.records.new.rng) read (g.K.Link.exchanges c.fetch.new.link) c.in-Ok-fetch.chunks (g.R.Rng.stream c.fetch.new.rng) fetched c.as_slice-body.result.now c.as_slice-read.result.now c.as_slice-read.result.now c.shown-shown.result.now answer c.as_slice-body.ensures c.as_slice-read.ensures c.shown-shown.ensures c.as_slice-read.ensures c.in-Ok-with_titles.ensures refl c.in-Ok-read_document.ensures)
+    let at = goal.at.returns-clause-told g c in
+    let end = c.fetch.new.link in
+    let ranked = has-ranked g at.In_ok-ranked end (has-begun g at.In_ok-published end) in
+    let read = has-records g at.In_ok-listed end ranked (bins-are g at.After-bins-bins) in
+    let fetched = fetches _ _ _ _ _ _ _ read _ _ _ _ (bin-is g at.After-bin_of-bin) c.in_ok-chunks.ensures.came c.in_ok-chunks.ensures.rest in
+    shown-told _ _ _ _ _ _ _ read _ _ _ fetched c.as_slice.result.now c.as_slice-read.result.now c.show.result c.as_slice.ensures c.as_slice-read.ensures c.show.ensures
 
 pub returns-clause-faults : goal.returns-clause-faults
 returns-clause-faults g c =
     omega (arith, c.consult.ensures.cause.later, c.start.ensures.cause.later, c.rank.ensures.cause.later, c.records.ensures.cause.later, c.fetch.ensures.cause.later)
 
 pub returns-clause-ready : goal.returns-clause-ready
-returns-clause-ready g c =
-    c.fetch.ensures.ready
+returns-clause-ready g c = c.fetch.ensures.ready
 
 pub returns-clause-beside : goal.returns-clause-beside
-returns-clause-beside g c =
-    c.fetch.ensures.beside ∙ c.records.ensures.beside ∙ c.rank.ensures.beside ∙ c.start.ensures.beside ∙ c.consult.ensures.beside
+returns-clause-beside g c = c.fetch.ensures.beside ∙ c.records.ensures.beside ∙ c.rank.ensures.beside ∙ c.start.ensures.beside ∙ c.consult.ensures.beside
+
+-- ---- what the calls ask
 
 pub rank-requires-clause-sorted : goal.rank-requires-clause-sorted
-rank-requires-clause-sorted g c =
-    terms-sorted c.in-Ok-consult.published.terms c.in-Ok-consult.ensures.found.public.good.each
+rank-requires-clause-sorted g c = terms-sorted c.in_ok-published.published.terms c.in_ok-published.ensures.found.public.good.each
 
 pub rank-requires-clause-few : goal.rank-requires-clause-few
 rank-requires-clause-few g c =
-    let good = c.in-Ok-consult.ensures.found.public.good in
-    omega (arith, good.count, (ranges c.in-Ok-consult.published.tested good.good.ranges).terms_high)
+    let good = c.in_ok-published.ensures.found.public.good in
+    omega (arith, good.count, (ranges c.in_ok-published.published.tested good.good.ranges).terms_high)
 
 pub records-requires-clause-rows : goal.records-requires-clause-rows
 records-requires-clause-rows g c =
-    let run : Search = record { query = terms c.args.query.now; pick = c.args.pick; stream = g.R.Rng.stream c.args.rng.now; before = g.K.Link.faults c.args.link.now; now = g.K.Link.faults c.rank.new.link; last_failed = g.K.Link.last_failed c.rank.new.link } in
-    let was = g.K.Link.exchanges c.args.link.now in
-    let begun = begins run was (g.K.Link.exchanges c.consult.new.link) c.in-Ok.keywords c.in-Ok-consult.published c.in-Ok.ensures.found c.in-Ok.ensures.few c.in-Ok-consult.ensures.found in
-    let ranked = ranks run was (g.K.Link.exchanges c.consult.new.link) (g.K.Link.exchanges c.start.new.link) (g.K.Link.exchanges c.rank.new.link) c.in-Ok-consult.published.tested (numbers_of c.in-Ok-consult.published.terms c.in-Ok.keywords) (unknown_in c.in-Ok-consult.published.terms c.in-Ok.keywords) c.in-Ok-start.reader (g.R.Rng.stream c.start.new.rng) begun c.in-Ok-start.ensures.came c.in-Ok-start.ensures.reader c.in-Ok-start.ensures.rest c.in-Ok-rank.ranked (g.R.Rng.stream c.rank.new.rng) c.in-Ok-rank.ensures.ranked c.in-Ok-rank.ensures.rest c.in-Ok-rank.ensures.few c.in-Ok-rank.ensures.unknown c.in-Ok-rank.ensures.placed in
-    has-rows run was (g.K.Link.exchanges c.rank.new.link) c.in-Ok-start.reader c.in-Ok-rank.ranked (g.R.Rng.stream c.rank.new.rng) ranked
+    subst (λ (r : ReaderState). r.shape.rows ≡ rows_of r.shape.degree r.shape.documents r.shape.hits r.shape.salt) (sym c.in_ok-reader.ensures.reader) c.in_ok-published.ensures.found.public.good.good.rows
 
 pub records-requires-clause-few : goal.records-requires-clause-few
-records-requires-clause-few g c =
-    c.in-Ok-rank.ensures.few
+records-requires-clause-few g c = c.in_ok-ranked.ensures.few
 
 pub records-requires-clause-placed : goal.records-requires-clause-placed
-records-requires-clause-placed g c =
-    c.in-Ok-rank.ensures.placed
+records-requires-clause-placed g c = c.in_ok-ranked.ensures.placed
 
 pub fetch-requires-clause-ready : goal.fetch-requires-clause-ready
-fetch-requires-clause-ready g c =
-    c.records.ensures.ready
+fetch-requires-clause-ready g c = c.records.ensures.ready
 
 pub fetch-requires-clause-bin : goal.fetch-requires-clause-bin
 fetch-requires-clause-bin g c =
-    let run : Search = record { query = terms c.args.query.now; pick = c.args.pick; stream = g.R.Rng.stream c.args.rng.now; before = g.K.Link.faults c.args.link.now; now = g.K.Link.faults c.rank.new.link; last_failed = g.K.Link.last_failed c.rank.new.link } in
-    let was = g.K.Link.exchanges c.args.link.now in
-    let begun = begins run was (g.K.Link.exchanges c.consult.new.link) c.in-Ok.keywords c.in-Ok-consult.published c.in-Ok.ensures.found c.in-Ok.ensures.few c.in-Ok-consult.ensures.found in
-    let ranked = ranks run was (g.K.Link.exchanges c.consult.new.link) (g.K.Link.exchanges c.start.new.link) (g.K.Link.exchanges c.rank.new.link) c.in-Ok-consult.published.tested (numbers_of c.in-Ok-consult.published.terms c.in-Ok.keywords) (unknown_in c.in-Ok-consult.published.terms c.in-Ok.keywords) c.in-Ok-start.reader (g.R.Rng.stream c.start.new.rng) begun c.in-Ok-start.ensures.came c.in-Ok-start.ensures.reader c.in-Ok-start.ensures.rest c.in-Ok-rank.ranked (g.R.Rng.stream c.rank.new.rng) c.in-Ok-rank.ensures.ranked c.in-Ok-rank.ensures.rest c.in-Ok-rank.ensures.few c.in-Ok-rank.ensures.unknown c.in-Ok-rank.ensures.placed in
-    let bins_is : c.bins-bins.result ≡ c.in-Ok-start.reader.shape.bins = c.bins-bins.ensures ∙ ap (λ (x : Numbers). x.bins) (c.shape.ensures.value ∙ c.tested.ensures) in
-    let bin_is : c.bin_of-bin.result ≡ bin_asked (picked_record c.in-Ok-records.listed c.args.pick) = c.bin_of-bin.ensures ∙ ap (λ (rs : List Record). bin_asked (picked_record rs c.args.pick)) c.as_slice-read.ensures in
-    let within = subst (λ (k : ℕ). All (λ r. is_within_bins (with_bins c.in-Ok-start.reader.shape k) r.place ≡ true) c.in-Ok-records.listed) bins_is c.in-Ok-records.ensures.within in
-    let r = has-ranges run was (g.K.Link.exchanges c.rank.new.link) c.in-Ok-start.reader c.in-Ok-rank.ranked (g.R.Rng.stream c.rank.new.rng) ranked in
-    subst (λ (k : ℕ). k < c.in-Ok-start.reader.shape.bins) (sym bin_is) (picked-within c.in-Ok-start.reader.shape c.in-Ok-records.listed c.args.pick r.bins_low within)
+    let at = goal.at.fetch-requires-clause-bin g c in
+    let s = c.in_ok-reader.reader.shape in
+    let some = subst (λ (r : ReaderState). 1 ≤ r.shape.bins) (sym c.in_ok-reader.ensures.reader) (ranges c.in_ok-published.published.tested c.in_ok-published.ensures.found.public.good.good.ranges).bins_low in
+    subst (λ (k : ℕ). k < s.bins) (sym (bin-is g at.After-bin_of-bin)) (picked-within s c.in_ok-listed.listed c.args.pick some (within g at.In_ok-listed (bins-are g at.After-bins-bins)))
 
-pub read_document-requires-clause-pick : goal.read_document-requires-clause-pick
-read_document-requires-clause-pick g c =
-    c.requires.pick.0
+pub show-requires-clause-pick : goal.show-requires-clause-pick
+show-requires-clause-pick g c = c.requires.pick
 
-pub read_document-requires-clause-whole : goal.read_document-requires-clause-whole
-read_document-requires-clause-whole g c =
-    let run : Search = record { query = terms c.args.query.now; pick = c.args.pick; stream = g.R.Rng.stream c.args.rng.now; before = g.K.Link.faults c.args.link.now; now = g.K.Link.faults c.fetch.new.link; last_failed = g.K.Link.last_failed c.fetch.new.link } in
-    let was = g.K.Link.exchanges c.args.link.now in
-    let begun = begins run was (g.K.Link.exchanges c.consult.new.link) c.in-Ok.keywords c.in-Ok-consult.published c.in-Ok.ensures.found c.in-Ok.ensures.few c.in-Ok-consult.ensures.found in
-    let ranked = ranks run was (g.K.Link.exchanges c.consult.new.link) (g.K.Link.exchanges c.start.new.link) (g.K.Link.exchanges c.rank.new.link) c.in-Ok-consult.published.tested (numbers_of c.in-Ok-consult.published.terms c.in-Ok.keywords) (unknown_in c.in-Ok-consult.published.terms c.in-Ok.keywords) c.in-Ok-start.reader (g.R.Rng.stream c.start.new.rng) begun c.in-Ok-start.ensures.came c.in-Ok-start.ensures.reader c.in-Ok-start.ensures.rest c.in-Ok-rank.ranked (g.R.Rng.stream c.rank.new.rng) c.in-Ok-rank.ensures.ranked c.in-Ok-rank.ensures.rest c.in-Ok-rank.ensures.few c.in-Ok-rank.ensures.unknown c.in-Ok-rank.ensures.placed in
-    let bins_is : c.bins-bins.result ≡ c.in-Ok-start.reader.shape.bins = c.bins-bins.ensures ∙ ap (λ (x : Numbers). x.bins) (c.shape.ensures.value ∙ c.tested.ensures) in
-    let read = has-read run was (g.K.Link.exchanges c.rank.new.link) c.in-Ok-start.reader c.in-Ok-rank.ranked (g.R.Rng.stream c.rank.new.rng) ranked (g.K.Link.exchanges c.records.new.link) c.bins-bins.result c.in-Ok-records.listed (g.R.Rng.stream c.records.new.rng) bins_is c.in-Ok-records.ensures.read c.in-Ok-records.ensures.rest in
-    let bin_is : c.bin_of-bin.result ≡ bin_asked (picked_record c.in-Ok-records.listed c.args.pick) = c.bin_of-bin.ensures ∙ ap (λ (rs : List Record). bin_asked (picked_record rs c.args.pick)) c.as_slice-read.ensures in
-    let fetched = fetches run was (g.K.Link.exchanges c.records.new.link) c.in-Ok-start.reader c.in-Ok-rank.ranked c.in-Ok-records.listed (g.R.Rng.stream c.records.new.rng) read (g.K.Link.exchanges c.fetch.new.link) c.bin_of-bin.result c.in-Ok-fetch.chunks (g.R.Rng.stream c.fetch.new.rng) bin_is c.in-Ok-fetch.ensures.came c.in-Ok-fetch.ensures.rest in
-    ap (λ (xs : List ℕ). length xs) c.as_slice-body.ensures ∙ fetched-long run was (g.K.Link.exchanges c.records.new.link) c.in-Ok-start.reader c.in-Ok-rank.ranked c.in-Ok-records.listed (g.R.Rng.stream c.records.new.rng) read (g.K.Link.exchanges c.fetch.new.link) c.in-Ok-fetch.chunks (g.R.Rng.stream c.fetch.new.rng) fetched
+pub show-requires-clause-long : goal.show-requires-clause-long
+show-requires-clause-long g c = ap (λ (rs : List Record). length rs) c.as_slice-read.ensures ∙ c.in_ok-listed.ensures.long
 
-pub read_document-requires-clause-within : goal.read_document-requires-clause-within
-read_document-requires-clause-within g c =
-    let bins_is : c.bins-bins.result ≡ c.in-Ok-start.reader.shape.bins = c.bins-bins.ensures ∙ ap (λ (x : Numbers). x.bins) (c.shape.ensures.value ∙ c.tested.ensures) in
-    let within = subst (λ (k : ℕ). All (λ r. is_within_bins (with_bins c.in-Ok-start.reader.shape k) r.place ≡ true) c.in-Ok-records.listed) bins_is c.in-Ok-records.ensures.within in
-    subst (λ (rs : List Record). All (λ r. is_within_bins c.in-Ok-start.reader.shape r.place ≡ true) rs) (sym c.as_slice-read.ensures) within
+pub show-requires-clause-within : goal.show-requires-clause-within
+show-requires-clause-within g c =
+    let at = goal.at.show-requires-clause-within g c in
+    subst (λ (rs : List Record). All (λ r. is_within_bins c.in_ok-reader.reader.shape r.place ≡ true) rs) (sym c.as_slice-read.ensures) (within g at.In_ok-listed (bins-are g at.After-bins-bins))
 
-pub with_titles-requires : goal.with_titles-requires
-with_titles-requires g c =
-    ap (λ (rs : List Record). length rs) c.as_slice-read.ensures ∙ c.in-Ok-records.ensures.long ∙ ap (λ (xs : Hits). length xs) (sym c.shown-shown.ensures)
+pub show-requires-clause-whole : goal.show-requires-clause-whole
+show-requires-clause-whole g c =
+    let s = c.in_ok-reader.reader.shape in
+    let spelled = c.in_ok-chunks.ensures.came.spelled in
+    ap (λ (xs : List ℕ). length xs) c.as_slice.ensures ∙ spelled-long s.degree s.chunks spelled.ciphers c.in_ok-chunks.chunks spelled.spelled

@@ -21,7 +21,7 @@ returns-then-not-is_empty-clause-refused g c =
     let stream = g.R.Rng.stream c.args.rng.now in
     let was = g.K.Link.exchanges c.args.link.now in
     let now = g.K.Link.exchanges c.ask.new.link in
-    let reply = c.in-Ok-ask.reply in
+    let reply = c.in_ok-reply.reply in
     let degree : c.of-degree.result ≡ s.degree = grind arith in
     let drawn = secret_draw s.degree stream in
     let secret : c.in-Ok.secret ≡ drawn.0 = c.in-Ok.ensures.value ∙ ap (λ (n : ℕ). (secret_draw n stream).0) degree in
@@ -32,5 +32,5 @@ returns-then-not-is_empty-clause-refused g c =
       target_is = refl;
       body = reply;
       bad = inl (not-empty c.is_empty.result reply c.is_empty.ensures c.if-not-is_empty.true, omega arith);
-      comes = subst (λ (b : List ℕ). Comes was now (record { target = ForKeys; body = b }) (reply_with 200 reply)) body c.in-Ok-ask.ensures.came;
+      comes = subst (λ (b : List ℕ). Comes was now (record { target = ForKeys; body = b }) (reply_with 200 reply)) body c.in_ok-reply.ensures.came;
     }
