@@ -110,6 +110,7 @@ fn count_queries(loaded: &Loaded, target: Target) -> u32
     ensures { result ≡ query_count loaded.now.shape target }
 {
     let shape = loaded.tested().shape();
+    let _ = shape.degree();
     match target {
         Target::Score => shape.keyword_blocks(),
         Target::Meta => buckets(shape.hits()),
