@@ -18,8 +18,7 @@ SpellsBetween i j text body = take (7 * j) body ≡ take (7 * i) body ++ text
 abbrev pub IsRangeFault : List ℕ → WireFault → Type 0
 IsRangeFault body (Range place) = IsFirstOutOfRange body place
 IsRangeFault body OutOfMemory = Unit {0}
-IsRangeFault body (Length wanted found) = ⊥
-IsRangeFault body (Public place) = ⊥
+IsRangeFault body fault = ⊥
 
 -- a reader of the residues from the i-th up to the j-th gives what they spell, and has found those before the j-th in
 -- range; or its fault is the first residue out of range
