@@ -19,7 +19,7 @@ use Rattle.co_math.specs.Parameters.{q, plain_modulus, plain_half}
 use Rattle.co_rns.specs.Residue_pairs.{centred_coefficients}
 use Rattle.co_rns.specs.Pairs.{IsWhole}
 use Rattle.co_rns.proofs.Centring.{centred_IsWrapped}
-use Rattle.co_bfv.specs.Ciphertexts.{Ciphertext, IsCiphertext, ciphertext_degree, MeansWithin, zero_ciphertext, ciphertext_sum, ciphertext_difference, plain_product}
+use Rattle.co_bfv.specs.Ciphertexts.{Ciphertext, IsCiphertext, ciphertext_degree, MeansWithin, IsCombined, zero_ciphertext, ciphertext_sum, ciphertext_difference, plain_product}
 use Rattle.co_math.proofs.Degrees.{degree_positive}
 use Rattle.co_math.proofs.Residue_lists.{residues_of-is, length-residues_of, residues_of-agree, residues_of-below}
 use Rattle.co_math.proofs.Wrapped.{plus-IsWrapped, minus-IsWrapped}
@@ -69,15 +69,6 @@ pub difference_are : (c d e : Ciphertext) → length c.c1 ≡ length c.c0
     → AreResidues q (length c.c1) (minus (coefficients c.c1) (coefficients d.c1)) e.c1 → e ≡ ciphertext_difference c d
 unfolding ciphertext_difference
 difference_are c d e l x y = parts_are (length c.c0) (length c.c1) (minus (coefficients c.c0) (coefficients d.c0)) (minus (coefficients c.c1) (coefficients d.c1)) e l x y
-
--- of ciphertexts that are these
-pub sum_made : (x y z c d : Ciphertext) → IsCiphertext x → x ≡ c → y ≡ d → AreResidues q (length x.c0) (plus (coefficients x.c0) (coefficients y.c0)) z.c0
-    → AreResidues q (length x.c1) (plus (coefficients x.c1) (coefficients y.c1)) z.c1 → z ≡ ciphertext_sum c d
-sum_made x y z c d h a b f g = sum_are x y z h.one_degree f g ∙ (λ i. ciphertext_sum (a i) (b i))
-
-pub difference_made : (x y z c d : Ciphertext) → IsCiphertext x → x ≡ c → y ≡ d → AreResidues q (length x.c0) (minus (coefficients x.c0) (coefficients y.c0)) z.c0
-    → AreResidues q (length x.c1) (minus (coefficients x.c1) (coefficients y.c1)) z.c1 → z ≡ ciphertext_difference c d
-difference_made x y z c d h a b f g = difference_are x y z h.one_degree f g ∙ (λ i. ciphertext_difference (a i) (b i))
 
 pub product_are : (c : Ciphertext) (xs : List ℕ) (e : Ciphertext) → length c.c1 ≡ length c.c0
     → AreResidues q (length c.c0) (product (length c.c0) (coefficients c.c0) (centred_coefficients xs)) e.c0
@@ -135,16 +126,44 @@ pub difference_means : (c d : Ciphertext) → IsCiphertext c → IsCiphertext d 
 unfolding ciphertext_difference
 difference_means c d hc hd e s m₁ m₂ b₁ b₂ x y = combined_means minus minus-IsWrapped means_minus c d hc hd e s m₁ m₂ b₁ b₂ x y
 
--- of ciphertexts that are these
-pub sum_meant : (x y z c d : Ciphertext) → IsCiphertext x → IsCiphertext y → x ≡ c → y ≡ d → z ≡ ciphertext_sum c d → ciphertext_degree d ≡ ciphertext_degree c
-    → (s m₁ m₂ : ℤ → ℤ) (b₁ b₂ : ℕ) → MeansWithin s c m₁ b₁ → MeansWithin s d m₂ b₂ → MeansWithin s z (plus m₁ m₂) (b₁ + b₂)
-sum_meant x y z c d hx hy a b e one s m₁ m₂ b₁ b₂ f g =
-    subst (λ (v : Ciphertext). MeansWithin s v (plus m₁ m₂) (b₁ + b₂)) (sym e) (sum_means c d (subst IsCiphertext a hx) (subst IsCiphertext b hy) one s m₁ m₂ b₁ b₂ f g)
+-- ciphertexts that are added by parts in this way are combined
+abbrev CombinesParts : ((ℤ → ℤ) → (ℤ → ℤ) → ℤ → ℤ) → (Ciphertext → Ciphertext → Ciphertext) → Type 0
+CombinesParts add made =
+    (x y z c d : Ciphertext) → IsCiphertext x → IsCiphertext y → x ≡ c → y ≡ d → ciphertext_degree d ≡ ciphertext_degree c
+    → AreResidues q (length x.c0) (add (coefficients x.c0) (coefficients y.c0)) z.c0
+    → AreResidues q (length x.c1) (add (coefficients x.c1) (coefficients y.c1)) z.c1 → IsCombined add (made c d) c d z
 
-pub difference_meant : (x y z c d : Ciphertext) → IsCiphertext x → IsCiphertext y → x ≡ c → y ≡ d → z ≡ ciphertext_difference c d → ciphertext_degree d ≡ ciphertext_degree c
-    → (s m₁ m₂ : ℤ → ℤ) (b₁ b₂ : ℕ) → MeansWithin s c m₁ b₁ → MeansWithin s d m₂ b₂ → MeansWithin s z (minus m₁ m₂) (b₁ + b₂)
-difference_meant x y z c d hx hy a b e one s m₁ m₂ b₁ b₂ f g =
-    subst (λ (v : Ciphertext). MeansWithin s v (minus m₁ m₂) (b₁ + b₂)) (sym e) (difference_means c d (subst IsCiphertext a hx) (subst IsCiphertext b hy) one s m₁ m₂ b₁ b₂ f g)
+combined : (add : (ℤ → ℤ) → (ℤ → ℤ) → ℤ → ℤ) (made : Ciphertext → Ciphertext → Ciphertext)
+    → ((c d : Ciphertext) → ciphertext_degree (made c d) ≡ ciphertext_degree c)
+    → ((c d e : Ciphertext) → length c.c1 ≡ length c.c0
+    → AreResidues q (length c.c0) (add (coefficients c.c0) (coefficients d.c0)) e.c0
+    → AreResidues q (length c.c1) (add (coefficients c.c1) (coefficients d.c1)) e.c1 → e ≡ made c d)
+    → ((c d : Ciphertext) → IsCiphertext c → IsCiphertext d → ciphertext_degree d ≡ ciphertext_degree c
+    → (s m₁ m₂ : ℤ → ℤ) (b₁ b₂ : ℕ) → MeansWithin s c m₁ b₁ → MeansWithin s d m₂ b₂
+    → MeansWithin s (made c d) (add m₁ m₂) (b₁ + b₂))
+    → CombinesParts add made
+combined add made degree are means x y z c d hx hy a b one f g =
+    let value : z ≡ made c d = are x y z hx.one_degree f g ∙ (λ i. made (a i) (b i)) in
+    record {
+      value = value;
+      meaning = λ s m₁ m₂ b₁ b₂ u v. subst (λ (w : Ciphertext). MeansWithin s w (add m₁ m₂) (b₁ + b₂)) (sym value)
+          (means c d (subst IsCiphertext a hx) (subst IsCiphertext b hy) one s m₁ m₂ b₁ b₂ u v);
+      degree = ap ciphertext_degree value ∙ degree c d;
+    }
+
+sum-degree : (c d : Ciphertext) → ciphertext_degree (ciphertext_sum c d) ≡ ciphertext_degree c
+unfolding ciphertext_sum
+sum-degree c d = length-residues_of q (ciphertext_degree c) (plus (coefficients c.c0) (coefficients d.c0))
+
+difference-degree : (c d : Ciphertext) → ciphertext_degree (ciphertext_difference c d) ≡ ciphertext_degree c
+unfolding ciphertext_difference
+difference-degree c d = length-residues_of q (ciphertext_degree c) (minus (coefficients c.c0) (coefficients d.c0))
+
+pub sum_combined : CombinesParts plus ciphertext_sum
+sum_combined = combined plus ciphertext_sum sum-degree sum_are sum_means
+
+pub difference_combined : CombinesParts minus ciphertext_difference
+difference_combined = combined minus ciphertext_difference difference-degree difference_are difference_means
 
 halved : (r : ℕ) (b : Bool) → r < plain_modulus → leb (r + r) plain_modulus ≡ b → unsigned_abs (cond b (pos r) (pos r -ℤ pos plain_modulus)) ≤ plain_half
 halved r true l e = omega (arith, leb-true (r + r) plain_modulus e)

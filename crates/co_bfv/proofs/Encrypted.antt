@@ -1,7 +1,8 @@
 -- What encryption and decryption give.
-use Rattle.std.proofs.Common.{◌≡◌, ℕ, ◌*◌, ◌<◌, ◌≤◌, sym, ap, subst, ◌∙◌, arith, ℤ, pos, ◌+ℤ◌, ◌-ℤ◌, ◌*ℤ◌, List, length, get_or, map}
+use Rattle.std.proofs.Common.{◌≡◌, ℕ, ◌+◌, ◌*◌, ◌/◌, ◌<◌, ◌≤◌, sym, ap, subst, ◌∙◌, arith, ℤ, pos, ◌+ℤ◌, ◌-ℤ◌, ◌*ℤ◌, List, length, get_or, map}
 use Rattle.std.specs.Int.RustNames.{unsigned_abs}
-use Rattle.std.proofs.lemmas.List.{get_or-map, length-map, ext_get_or}
+use Rattle.std.proofs.Math.Nat.{mod-lt}
+use Rattle.std.proofs.lemmas.List.{get_or-map, length-map}
 use Rattle.rand_core.specs.Stream.{Stream}
 use Rattle.co_math.specs.Parameters.{q, plain_modulus, plain_half, error_bound, fresh_bound}
 use Rattle.co_math.specs.Residues.{residue}
@@ -15,9 +16,6 @@ use Rattle.co_math.proofs.Places.{coefficients-IsWrapped}
 use Rattle.co_math.proofs.Polynomials.{product-IsWrapped}
 use Rattle.co_math.proofs.Agreements.{Agree, residues_agree, residues_for, plus_agree, minus_agree}
 use Rattle.co_math.proofs.Noise.{rounding}
-use Rattle.co_math.proofs.Done.{AreFilled}
-use Rattle.co_ring.specs.declared.moduli.Modulus.TheVariants.{Plain}
-use Rattle.co_ring.specs.Polynomials.{Polynomial}
 use Rattle.co_bfv.specs.Secrets.{IsSecret}
 use Rattle.co_bfv.specs.Ciphertexts.{Ciphertext, IsCiphertext, ciphertext_degree, MeansWithin}
 use Rattle.co_bfv.specs.Encryptions.{delta, encrypted, opened, decrypted}
@@ -234,9 +232,8 @@ scaled_below xs b k l =
     let u : k < length xs = omega (arith, length-map xs delta) in
     subst (λ (v : ℕ). v < q) (sym (get_or-map delta xs k 0 0 u)) (delta-below (get_or xs k 0) (b k u))
 
-pub opened_are : (m : Polynomial) (xs : List ℕ) (k : ℕ) → m.modulus ≡ Plain → AreFilled (length xs) k (λ j. opened (get_or xs j 0)) m.coeffs → k ≡ length xs
-    → m ≡ record { modulus = Plain; coeffs = map opened xs }
-opened_are m xs k e h l i = record { modulus = e i; coeffs = all i }
-  where
-    all : m.coeffs ≡ map opened xs
-    all = ext_get_or 0 m.coeffs (map opened xs) (h.len ∙ sym (length-map xs opened)) (λ j u. h.done j (omega (arith, l, h.len)) ∙ sym (get_or-map opened xs j 0 0 (omega (arith, h.len))))
+pub opened_below : (xs : List ℕ) → AreBelow plain_modulus (map opened xs)
+unfolding opened
+opened_below xs k b =
+    let u : k < length xs = omega (arith, length-map xs opened) in
+    subst (λ (v : ℕ). v < plain_modulus) (sym (get_or-map opened xs k 0 0 u)) (mod-lt ((2 * plain_modulus * get_or xs k 0 + q) / (2 * q)) (omega arith))

@@ -1,6 +1,7 @@
 -- Polynomials of small integers, by their residues.
-use Rattle.std.proofs.Common.{◌≡◌, ℕ, suc, ◌-◌, ◌<◌, sym, ap, subst, ◌∙◌, arith, ℤ, pos, negsuc, true, false, List, length, get_or, w8}
+use Rattle.std.proofs.Common.{◌≡◌, ℕ, suc, ◌-◌, ◌<◌, sym, ap, subst, ◌∙◌, arith, ℤ, pos, negsuc, true, false, List, length, map, w8}
 use Rattle.std.proofs.lemmas.Bool.{leb-false}
+use Rattle.std.proofs.lemmas.List.{get_or-map, length-map}
 use lib.IntN.{nat_abs}
 use lib.Signed.{le_z}
 use mir.Val.{SFits}
@@ -8,7 +9,6 @@ use Rattle.co_math.specs.Residues.{residue}
 use Rattle.co_math.specs.Coefficients.{AreResidues, residues_of, signed_coefficients}
 use Rattle.co_math.proofs.Residues.{residue_small}
 use Rattle.co_math.proofs.Reduced.{opposite_some}
-use Rattle.co_math.proofs.Done.{AreFilled}
 use Rattle.co_math.specs.Parameters.{q, first_modulus, second_modulus}
 use Rattle.co_rns.specs.Residue_pairs.{AreResiduesOf}
 use Rattle.co_rns.specs.Pairs.{IsWhole}
@@ -24,10 +24,10 @@ pub small_under : (m : ℕ) (v : ℤ) → 128 < m → SFits w8 v → le_z (pos 0
 small_under m (pos a) l f e = absurd (omega (arith, leb-false 0 a e))
 small_under m (negsuc a) l f e = opposite_some m (suc a) (omega (arith, f.sfits)) (omega arith)
 
-pub signed_filled : (m n i : ℕ) (xs : List ℤ) (ys : List ℕ) → AreFilled (length xs) i (λ k. residue m (get_or xs k (pos 0))) ys → i ≡ length xs → length xs ≡ n → AreResidues m n (signed_coefficients xs) ys
-signed_filled m n i xs ys h e l = record {
-  len = h.len ∙ l;
-  each = λ k u. h.done k (omega (arith, l)) ∙ ap (residue m) (sym (signed-low xs k (omega (arith, l))));
+pub signed_residues : (m n : ℕ) (xs : List ℤ) → length xs ≡ n → AreResidues m n (signed_coefficients xs) (map (residue m) xs)
+signed_residues m n xs l = record {
+  len = length-map xs (residue m) ∙ l;
+  each = λ k u. get_or-map (residue m) xs k (pos 0) 0 (omega (arith, l)) ∙ ap (residue m) (sym (signed-low xs k (omega (arith, l))));
 }
 
 -- a polynomial modulo q whose residues are those of f

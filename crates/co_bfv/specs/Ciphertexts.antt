@@ -1,6 +1,6 @@
 -- Ciphertexts and what they mean.
 -- The scheme: Fan and Vercauteren, Somewhat Practical Fully Homomorphic Encryption, 2012.
-use Rattle.std.specs.Prelude.{ℕ, ℤ, pos, ◌≡◌, List, length}
+use Rattle.std.specs.Prelude.{ℕ, ℤ, pos, ◌≡◌, ◌+◌, List, length}
 use Rattle.co_math.specs.Polynomials.{plus, minus, product}
 use Rattle.co_math.specs.Coefficients.{coefficients, residues_of}
 use Rattle.co_math.specs.Meanings.{Means}
@@ -46,6 +46,14 @@ ciphertext_difference c d = record {
   c0 = residues_of q (ciphertext_degree c) (minus (coefficients c.c0) (coefficients d.c0));
   c1 = residues_of q (ciphertext_degree c) (minus (coefficients c.c1) (coefficients d.c1));
 }
+
+-- e is `made` of c and d, which are added by parts in this way: so are their messages, and the
+-- bounds of the noise add up
+pub record IsCombined (add : (ℤ → ℤ) → (ℤ → ℤ) → ℤ → ℤ) (made c d e : Ciphertext) : Type 0 where
+  pub value : e ≡ made
+  pub meaning : (s m₁ m₂ : ℤ → ℤ) (b₁ b₂ : ℕ) → MeansWithin s c m₁ b₁ → MeansWithin s d m₂ b₂
+      → MeansWithin s e (add m₁ m₂) (b₁ + b₂)
+  pub degree : ciphertext_degree e ≡ ciphertext_degree c
 
 -- both parts times a polynomial modulo t, taken with centred coefficients
 unfoldable pub plain_product : Ciphertext → List ℕ → Ciphertext

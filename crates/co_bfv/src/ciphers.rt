@@ -6,7 +6,7 @@ ghost use Rattle.co_math.specs.Polynomials.{IsWrapped, plus, minus, product};
 ghost use Rattle.co_ring.specs.Polynomials.{degree_of};
 ghost use Rattle.co_rns.specs.Residue_pairs.{centred_coefficients};
 ghost use Rattle.co_bfv.specs.Ciphertexts.{Ciphertext, IsCiphertext, MeansWithin, ciphertext_degree};
-ghost use Rattle.co_bfv.specs.Ciphertexts.{zero_ciphertext, plain_product};
+ghost use Rattle.co_bfv.specs.Ciphertexts.{zero_ciphertext, plain_product, IsCombined};
 ghost use Rattle.co_bfv.specs.Ciphertexts.{ciphertext_sum, ciphertext_difference};
 
 use co_ring::{Degree, Modulus, Poly};
@@ -87,11 +87,7 @@ impl Cipher {
     /// Adds a ciphertext: the messages add up, and so do the bounds of the noise.
     pub fn add_in(&mut self, other: &Cipher)
         requires { ciphertext_degree other.now ≡ ciphertext_degree self.old }
-        ensures value { self.new ≡ ciphertext_sum self.old other.now }
-        ensures meaning { (s m₁ m₂ : ℤ → ℤ) (b₁ b₂ : ℕ)
-            → MeansWithin s self.old m₁ b₁ → MeansWithin s other.now m₂ b₂
-            → MeansWithin s self.new (plus m₁ m₂) (b₁ + b₂) }
-        ensures degree { ciphertext_degree self.new ≡ ciphertext_degree self.old }
+        ensures { IsCombined plus (ciphertext_sum self.old other.now) self.old other.now self.new }
     {
         self.c0.add_in(&other.c0);
         self.c1.add_in(&other.c1);
@@ -100,11 +96,8 @@ impl Cipher {
     /// Subtracts a ciphertext: the messages are subtracted, and the bounds of the noise add up.
     pub fn sub_in(&mut self, other: &Cipher)
         requires { ciphertext_degree other.now ≡ ciphertext_degree self.old }
-        ensures value { self.new ≡ ciphertext_difference self.old other.now }
-        ensures meaning { (s m₁ m₂ : ℤ → ℤ) (b₁ b₂ : ℕ)
-            → MeansWithin s self.old m₁ b₁ → MeansWithin s other.now m₂ b₂
-            → MeansWithin s self.new (minus m₁ m₂) (b₁ + b₂) }
-        ensures degree { ciphertext_degree self.new ≡ ciphertext_degree self.old }
+        ensures { IsCombined minus (ciphertext_difference self.old other.now) self.old other.now
+            self.new }
     {
         self.c0.sub_in(&other.c0);
         self.c1.sub_in(&other.c1);

@@ -12,7 +12,7 @@ use crate::ciphers::Cipher;
 use crate::draws::{sample_error, sample_uniform};
 use crate::secrets::Secret;
 use co_math::parameters::{CIPHER_MODULUS, PLAIN_MODULUS};
-use co_ring::{Degree, Modulus, Poly};
+use co_ring::{Modulus, Poly};
 use co_rns::Pair;
 use rand_core::Rng;
 use std::alloc::{AllocError, Global};
@@ -87,11 +87,11 @@ fn open(alloc: Global, phase: &Pair) -> Result<Poly, AllocError>
     ensures { IfOk result (λ p.
         p ≡ record { modulus = Modulus.Plain; coeffs = map opened phase.now }) }
 {
-    let mut message = Poly::zero(alloc, Modulus::Plain, Degree::of(phase.degree()))?;
+    let mut message = Vec::with_capacity(alloc, phase.degree())?;
     for k in 0..phase.degree() {
-        message.set(k, open_one(phase.compose(k)));
+        message.push(open_one(phase.compose(k)))?;
     }
-    Ok(message)
+    Ok(Poly::from_vec(Modulus::Plain, message))
 }
 
 /// A coefficient of a phase times t / q, rounded, modulo t.

@@ -32,12 +32,12 @@ pub fn reduce_all(
     requires { length values.now ≡ degree }
     ensures { IfOk result (IsPoly modulus degree (signed_coefficients values.now)) }
 {
-    let mut poly = Poly::zero(alloc, modulus, degree)?;
+    let mut coeffs = Vec::with_capacity(alloc, degree.get() as usize)?;
     let m = modulus.value();
     for k in 0..values.len() {
-        poly.set(k, reduce(values[k], m));
+        coeffs.push(reduce(values[k], m))?;
     }
-    Ok(poly)
+    Ok(Poly::from_vec(modulus, coeffs))
 }
 
 /// A polynomial of small integers, modulo q.

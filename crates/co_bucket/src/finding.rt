@@ -104,7 +104,9 @@ fn explore(
 /// vain.
 #[derive(Drop)]
 pub(crate) enum Found {
+    /// The bucket of each item.
     Placed(Choices),
+    /// The items and buckets that were reached, one bucket fewer than items.
     Blocked { items: Vec<u32>, buckets: Vec<u32> },
 }
 

@@ -126,7 +126,7 @@ fn empty_lists(alloc: Global, buckets: u32) -> Result<Vec<Vec<u32>>, AllocError>
     ensures empty { IfOk result (λ lists. (k : ℕ) → k < buckets
         → slice_index_or (contents lists.items) k [] ≡ []) }
 {
-    let mut lists: Vec<Vec<u32>> = Vec::new(alloc);
+    let mut lists: Vec<Vec<u32>> = Vec::with_capacity(alloc, buckets as usize)?;
     for bucket in 0..buckets {
         lists.push(Vec::new(alloc))?;
     }

@@ -32,12 +32,16 @@ pub record IsStep (s : ServingState) (r : Request) (reply : Reply) (t : ServingS
 abbrev pub wanted_by : ServingState → Target → ℕ
 wanted_by s target = request_size s.library.shape target
 
--- how a connection is served by a session that is as s before and as t after: the conversation of its input, by its end, with
--- what had been put, and with what the source has left and has been put in the end
-abbrev pub Serving : ServingState → ServingState → List ℕ → Option (List ℕ) → List ℕ → Option (List ℕ) → ℕ → Ended → Type 0
-Serving s t input left put now requests end = Serves wanted_by IsStep s t input left put now requests end
+-- how a connection is served by a session that is as s before and as t after: the conversation of
+-- its input, by its end, with what had been put, and with what the source has left and has been put
+-- in the end
+abbrev pub Serving : ServingState → ServingState → List ℕ → Option (List ℕ) → List ℕ
+    → Option (List ℕ) → ℕ → Ended → Type 0
+Serving s t input left put now requests end =
+    Serves wanted_by IsStep s t input left put now requests end
 
 -- the same by a new session over the library, whose keys go with the connection
-pub record ServesLibrary (library : Parts) (input : List ℕ) (left : Option (List ℕ)) (put : List ℕ) (now : Option (List ℕ)) (requests : ℕ) (end : Ended) : Type 0 where
+pub record ServesLibrary (library : Parts) (input : List ℕ) (left : Option (List ℕ)) (put : List ℕ)
+    (now : Option (List ℕ)) (requests : ℕ) (end : Ended) : Type 0 where
   pub last : ServingState
   pub serves : Serving (fresh library) last input left put now requests end

@@ -31,10 +31,13 @@ pub fn serve_connection<C: Duplex, R: Threads + Sync, G: Gate, L>(
 ) -> Served
     requires { (1 ≤ workers) × (workers ≤ 64) }
     ensures serves { IfSome (C.left line.old) (λ input. IfSome (C.put_so_far line.old) (λ put.
-        ServesLibrary loaded.now input (C.left line.new) put (C.put_so_far line.new) result.requests result.ended)) }
+        ServesLibrary loaded.now input (C.left line.new) put (C.put_so_far line.new) result.requests
+        result.ended)) }
     ensures requests { result.requests ≤ 1000 }
-    ensures read_fault { result.ended ≡ ReadFault → Rose (C.Source.faults line.old) (C.Source.faults line.new) }
-    ensures write_fault { result.ended ≡ WriteFault → Rose (C.Sink.faults line.old) (C.Sink.faults line.new) }
+    ensures read_fault { result.ended ≡ ReadFault
+        → Rose (C.Source.faults line.old) (C.Source.faults line.new) }
+    ensures write_fault { result.ended ≡ WriteFault
+        → Rose (C.Sink.faults line.old) (C.Sink.faults line.new) }
     ensures beside { C.Duplex.beside line.new ≡ C.Duplex.beside line.old }
     ensures takes_later { C.Source.faults line.old ≤ C.Source.faults line.new }
     ensures puts_later { C.Sink.faults line.old ≤ C.Sink.faults line.new }

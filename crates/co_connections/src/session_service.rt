@@ -31,7 +31,8 @@ impl<'a, F> Model for SessionService<'a, F> {
 
     ghost view = { λ s. record { library = s.loaded.now; keys = s.session } };
 
-    ghost invariant = { λ s. (1 ≤ s.workers) × (s.workers ≤ 64) × AreKept s.loaded.now.shape s.session };
+    ghost invariant = { λ s. (1 ≤ s.workers) × (s.workers ≤ 64)
+        × AreKept s.loaded.now.shape s.session };
 }
 
 impl<'a, F> SessionService<'a, F> {
@@ -81,11 +82,16 @@ impl<F: FnMut(&mut Session, &Loaded, &Request, u32) -> Answer> Answering for Ses
     ghost answers = { IsStep };
 
     // Each call of `step` is a step of the session.
-    ghost may_answer = { λ s. ((f : F) (keys : _) (loaded : _) (request : _) (workers : _)
-        → (1 ≤ workers) × (workers ≤ 64) → AreKept loaded.now.shape keys.now → F.pre f keys loaded request workers)
+    ghost may_answer = { λ s.
+        ((f : F) (keys : _) (loaded : _) (request : _) (workers : _)
+        → (1 ≤ workers) × (workers ≤ 64) → AreKept loaded.now.shape keys.now
+        → F.pre f keys loaded request workers)
         × ((f g : F) (keys kept : _) (loaded : _) (request : _) (workers : _) (answer : _)
-        → (1 ≤ workers) × (workers ≤ 64) → AreKept loaded.now.shape keys.now → F.step f keys loaded request workers answer kept g
-        → IsAnswer loaded.now keys.now request.now answer × Holds loaded.now.shape keys.now request.now answer kept.now × AreKept loaded.now.shape kept.now) };
+        → (1 ≤ workers) × (workers ≤ 64) → AreKept loaded.now.shape keys.now
+        → F.step f keys loaded request workers answer kept g
+        → IsAnswer loaded.now keys.now request.now answer
+        × Holds loaded.now.shape keys.now request.now answer kept.now
+        × AreKept loaded.now.shape kept.now) };
 
     fn answer(&mut self, request: &Request) -> Reply {
         let answer = (self.step)(&mut self.session, self.loaded, request, self.workers);

@@ -64,7 +64,7 @@ fn crew_of<S: Drop, L, W: Work<S, L>>(
     ensures fresh { IfOk result (λ crew. All (λ w. W.is_sum work.now [] w.sum × (w.steps ≡ 0)
         × (w.done ≡ false)) crew.items) }
 {
-    let mut crew = Vec::new(alloc);
+    let mut crew = Vec::with_capacity(alloc, passes.len())?;
     for pass in passes {
         let worker = Worker {
             pass,

@@ -62,6 +62,3 @@ pub use tcp_port::TcpPort;
 
 /// Bytes of any length.
 pub type Bytes = co_list::Listed<u8>;
-
-#[cfg(test)]
-mod tests;

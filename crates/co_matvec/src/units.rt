@@ -86,7 +86,7 @@ fn empty_sums(alloc: Global, weights: &Weights) -> Result<Vec<CipherSum>, AllocE
     ensures empty { IfOk result (λ sums. AreEmpty weights.now.degree sums.items) }
 {
     let blocks = weights.document_blocks();
-    let mut sums = Vec::new(alloc);
+    let mut sums = Vec::with_capacity(alloc, blocks)?;
     for a in 0..blocks {
         sums.push(CipherSum::zero(alloc, weights.degree())?)?;
     }
@@ -144,7 +144,7 @@ fn turned_back(
     ensures { IfOk result (λ replies. AreTurnedBack tables.now (length sums.now)
         sums.now replies.items) }
 {
-    let mut replies = Vec::new(alloc);
+    let mut replies = Vec::with_capacity(alloc, sums.len())?;
     for a in 0..sums.len() {
         replies.push(sums[a].cipher(alloc, tables)?)?;
     }

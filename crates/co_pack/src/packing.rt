@@ -241,7 +241,7 @@ fn pack_in_order(
     ensures first_fit { IfOk result (λ r. IsFirstFit size r.0.items) }
     ensures count { IfOk result (λ r. IsBinCount r.0.items r.1) }
 {
-    let mut placed = Vec::new(alloc);
+    let mut placed = Vec::with_capacity(alloc, order.len())?;
     let mut rooms = Vec::new(alloc);
     let mut tops = Vec::new(alloc);
     for document in order {
@@ -279,7 +279,7 @@ fn sorted_keys(alloc: Global, lengths: &[u32]) -> Result<Vec<(Reverse<u32>, u32)
     ensures long { IfOk result (λ keys. All (λ k. k.0.0 ≡ slice_index lengths.now k.1) keys.items) }
     ensures sorted { IfOk result (λ keys. IsSorted key_cmp keys.items) }
 {
-    let mut keys = Vec::new(alloc);
+    let mut keys = Vec::with_capacity(alloc, lengths.len())?;
     for (document, length) in lengths.iter().enumerate() {
         keys.push((Reverse(*length), document as u32))?;
     }

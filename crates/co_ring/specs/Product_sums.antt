@@ -40,7 +40,8 @@ pub record AreSumsWith (old a b new : List ℕ) : Type 0 where
       ≡ slice_index old k + slice_index a k * slice_index b k
 
 -- value by value, the products of pairs of lists were added, and nothing was reduced
-pub record AreSumsWithAll (old : List ℕ) (pairs : List (List ℕ × List ℕ)) (new : List ℕ) : Type 0 where
+pub record AreSumsWithAll (old : List ℕ) (pairs : List (List ℕ × List ℕ)) (new : List ℕ)
+    : Type 0 where
   pub len : length new ≡ length old
   pub each : (k : ℕ) → k < length old → slice_index new k ≡ slice_index old k + products_at pairs k
 

@@ -72,7 +72,8 @@ second_pairs [] = []
 second_pairs (p ∷ ps) = (p.0.second, p.1.second) ∷ second_pairs ps
 
 -- a product more for each pair
-pub record IsPairSumWithAll (old : PairSums) (pairs : List (PairValues × PairValues)) (new : PairSums) : Type 0 where
+pub record IsPairSumWithAll (old : PairSums) (pairs : List (PairValues × PairValues))
+    (new : PairSums) : Type 0 where
   pub more : new.count ≡ old.count + length pairs
   pub first_sums : AreSumsWithAll old.first (first_pairs pairs) new.first
   pub second_sums : AreSumsWithAll old.second (second_pairs pairs) new.second

@@ -34,12 +34,10 @@ pub record HandsOver (s : Numbers) (body : List ℕ) : Type 0 where
 abbrev pub IsGoodRequest : Numbers → Option Keys → Target → List ℕ → Type 0
 IsGoodRequest s held Public body = body ≡ []
 IsGoodRequest s held ForKeys body = HandsOver s body
-IsGoodRequest s None Score body = ⊥
 IsGoodRequest s (Some keys) Score body = Spells s.degree (keyword_blocks s) body
-IsGoodRequest s None Meta body = ⊥
 IsGoodRequest s (Some keys) Meta body = Spells s.degree (bucket_count s.hits) body
-IsGoodRequest s None Document body = ⊥
 IsGoodRequest s (Some keys) Document body = Spells s.degree 1 body
+IsGoodRequest s None target body = ⊥
 
 -- ---- bodies of replies
 
@@ -67,12 +65,10 @@ pub record IsFetched (l : Parts) (keys : Keys) (body reply : List ℕ) : Type 0 
 abbrev pub IsDone : Parts → Option Keys → Target → List ℕ → List ℕ → Type 0
 IsDone l held Public body reply = (body ≡ []) × (reply ≡ public_bytes l.shape l.terms)
 IsDone l held ForKeys body reply = HandsOver l.shape body × (reply ≡ [])
-IsDone l None Score body reply = ⊥
 IsDone l (Some keys) Score body reply = IsScored l keys body reply
-IsDone l None Meta body reply = ⊥
 IsDone l (Some keys) Meta body reply = IsGathered l keys body reply
-IsDone l None Document body reply = ⊥
 IsDone l (Some keys) Document body reply = IsFetched l keys body reply
+IsDone l None target body reply = ⊥
 
 -- ---- answers
 

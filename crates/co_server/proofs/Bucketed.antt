@@ -1,17 +1,14 @@
 -- The tables of a library.
-use Rattle.std.proofs.Common.{◌≡◌, ℕ, ◌+◌, ◌*◌, ◌/◌, ◌<◌, ◌≤◌, refl, sym, ap, subst, ◌∙◌, arith, List, [], length, get_or, max, All, Result}
+use Rattle.std.proofs.Common.{◌≡◌, ℕ, ◌*◌, ◌<◌, ◌≤◌, sym, ap, subst, ◌∙◌, arith, List, [], length, get_or, Result}
 use Rattle.std.specs.Prelude.{IfOk}
 use Rattle.std.proofs.Math.Nat.{div-le_self}
 use Rattle.std.proofs.lemmas.List.FromFn.{length-map-range_with_len}
-use Rattle.co_noise.specs.Bounds.{HasRoom}
 use Rattle.co_bucket.specs.Lists.{bucket_count, listed, lists_of}
 use Rattle.co_bucket.specs.Bytes.{record_chunks}
 use Rattle.co_bucket.proofs.Standing.{list_at}
 use Rattle.co_pir.specs.Tables.{Table, IsTable}
-use Rattle.co_library.specs.Libraries.{Parts, IsLibrary}
-use Rattle.co_rounds.specs.Serving.{bucket_documents, bucket_table, bin_table}
-use Rattle.co_rounds.proofs.Recorded.{listed_below}
-use Rattle.co_rounds.proofs.Retrievable.{is-bucket_table, is-bin_table}
+use Rattle.co_library.specs.Libraries.{Parts}
+use Rattle.co_rounds.specs.Serving.{bucket_documents}
 
 -- a table, by parts that are equal
 abbrev pub table : ℕ → ℕ → ℕ → List ℕ → Table

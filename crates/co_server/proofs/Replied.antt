@@ -1,5 +1,6 @@
 -- Requests under keys: their length, and the reply to their queries.
-use Rattle.std.proofs.Common.{◌≡◌, ℕ, ◌+◌, ◌*◌, refl, ap, subst, ◌∙◌, arith, List, [], ◌∷◌, length, true, false, Some}
+use Rattle.std.proofs.Common.{◌≡◌, ℕ, ◌*◌, refl, sym, ap, subst, ◌∙◌, arith, List, [], ◌∷◌, true, Some}
+use mathlib.Core.Bool.{true≢false}
 use Rattle.co_link.specs.declared.messages.Target.{Target}
 use Rattle.co_link.specs.declared.messages.Target.TheVariants.{Public, Keys as ForKeys, Score, Meta, Document}
 use Rattle.co_noise.specs.Shapes.{Numbers}
@@ -15,8 +16,8 @@ use Rattle.co_server.specs.Queries.{query_count, AreReplies}
 
 -- so many bytes for so many queries
 pub size-is : (s : Numbers) (target : Target) → needs_keys target ≡ true → query_count s target * cipher_size s.degree ≡ request_size s target
-size-is s Public keyed = elim keyed [ ]
-size-is s ForKeys keyed = elim keyed [ ]
+size-is s Public keyed = absurd (true≢false (sym keyed))
+size-is s ForKeys keyed = absurd (true≢false (sym keyed))
 size-is s Score keyed = refl
 size-is s Meta keyed = refl
 size-is s Document keyed = omega arith

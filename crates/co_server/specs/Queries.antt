@@ -26,4 +26,5 @@ AreReplies l keys Public queries replies = ⊥
 AreReplies l keys ForKeys queries replies = ⊥
 AreReplies l keys Score queries replies = AreScoreReplies (weights_of l) keys queries replies
 AreReplies l keys Meta queries replies = replies ≡ gathered l keys queries
-AreReplies l keys Document queries replies = replies ≡ retrieved (bin_table l) keys (ciphertext_at queries 0)
+AreReplies l keys Document queries replies =
+    replies ≡ retrieved (bin_table l) keys (ciphertext_at queries 0)

@@ -31,9 +31,22 @@ impl<'a, R: Runs> Model for LocalLink<'a, R> {
 
     ghost Value = { LocalState };
 
-    ghost view = { λ s. record { library = s.loaded.now; workers = s.workers; told = s.told.items; keys = s.session; dialling = dialling_of s.dials } };
+    ghost view = { λ s. record {
+      library = s.loaded.now;
+      workers = s.workers;
+      told = s.told.items;
+      keys = s.session;
+      dialling = dialling_of s.dials;
+    } };
 
-    ghost invariant = { λ s. R.is_shared × IsLocal (record { library = s.loaded.now; workers = s.workers; told = s.told.items; keys = s.session; dialling = dialling_of s.dials }) };
+    ghost invariant = { λ s. R.is_shared
+        × IsLocal (record {
+          library = s.loaded.now;
+          workers = s.workers;
+          told = s.told.items;
+          keys = s.session;
+          dialling = dialling_of s.dials;
+        }) };
 }
 
 impl<R: Runs> Drop for LocalLink<'_, R> {

@@ -110,6 +110,7 @@ fn count_queries(loaded: &Loaded, target: Target) -> u32
     ensures { result ≡ query_count loaded.now.shape target }
 {
     let shape = loaded.tested().shape();
+    let _ = shape.degree();
     match target {
         Target::Score => shape.keyword_blocks(),
         Target::Meta => buckets(shape.hits()),
@@ -121,8 +122,11 @@ fn count_queries(loaded: &Loaded, target: Target) -> u32
 /// The queries of a request for scores, records or a document.
 fn read_queries(alloc: Global, loaded: &Loaded, request: &Request) -> Result<Vec<Cipher>, WireFault>
     requires { needs_keys request.now.target ≡ true }
-    ensures spelled { IfOk result (λ cs. SpellsCiphers loaded.now.shape.degree (query_count loaded.now.shape request.now.target) cs.items request.now.body) }
-    ensures fault { IfErr result (IsBadBody (request_size loaded.now.shape request.now.target) request.now.body) }
+    ensures spelled { IfOk result
+        (λ cs. SpellsCiphers loaded.now.shape.degree
+        (query_count loaded.now.shape request.now.target) cs.items request.now.body) }
+    ensures fault { IfErr result
+        (IsBadBody (request_size loaded.now.shape request.now.target) request.now.body) }
 {
     let degree = Degree::of(loaded.tested().shape().degree() as usize);
     let count = count_queries(loaded, request.target);
@@ -143,7 +147,8 @@ fn replies<R: Threads + Sync, G: Gate, L>(
     steps: &mut Steps<L>,
 ) -> Result<Vec<Cipher>, AllocError>
     requires target { needs_keys target ≡ true }
-    requires queries { AreCiphers loaded.now.shape.degree (query_count loaded.now.shape target) queries.now }
+    requires queries { AreCiphers loaded.now.shape.degree (query_count loaded.now.shape target)
+        queries.now }
     requires keys { AreKeysFor loaded.now.shape keys.now }
     requires workers { (1 ≤ workers) × (workers ≤ 64) }
     ensures { IfOk result (λ cs. AreReplies loaded.now keys.now target queries.now cs.items) }
@@ -173,7 +178,8 @@ fn gather<R: Threads + Sync, G: Gate, L>(
     gate: &G,
     steps: &mut Steps<L>,
 ) -> Result<Vec<Cipher>, AllocError>
-    requires queries { AreCiphers loaded.now.shape.degree (bucket_count loaded.now.shape.hits) queries.now }
+    requires queries { AreCiphers loaded.now.shape.degree (bucket_count loaded.now.shape.hits)
+        queries.now }
     requires keys { AreKeysFor loaded.now.shape keys.now }
     requires workers { (1 ≤ workers) × (workers ≤ 64) }
     ensures { IfOk result (λ cs. cs.items ≡ gathered loaded.now keys.now queries.now) }
@@ -212,7 +218,8 @@ fn bucket_reply<R: Threads + Sync, G: Gate, L>(
     requires degree { ciphertext_degree query.now ≡ loaded.now.shape.degree }
     requires keys { AreKeysFor loaded.now.shape keys.now }
     requires workers { (1 ≤ workers) × (workers ≤ 64) }
-    ensures { IfOk result (λ cs. cs.items ≡ retrieved (bucket_table loaded.now bucket) keys.now query.now) }
+    ensures { IfOk result (λ cs. cs.items ≡ retrieved (bucket_table loaded.now bucket) keys.now
+        query.now) }
 {
     let rows = loaded.bucket(bucket);
     answer(rt, alloc, rows, keys, query, workers, gate, steps)

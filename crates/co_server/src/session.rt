@@ -38,8 +38,8 @@ impl Session {
         Session { keys: None }
     }
 
-    /// The answer to a request. Each but the one to keys leaves the session. The gate is told of the
-    /// units of each score and retrieval; the steps of all count together.
+    /// The answer to a request. Each but the one to keys leaves the session. The gate is told of
+    /// the units of each score and retrieval; the steps of all count together.
     pub fn step<R: Threads + Sync, G: Gate, L>(
         &mut self,
         rt: &R,

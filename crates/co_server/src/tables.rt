@@ -55,7 +55,8 @@ pub(crate) fn bucket_rows(
     tested: &Tested,
 ) -> Result<Vec<Rows>, AllocError>
     requires { tested.now ≡ library.now.shape }
-    ensures { IfOk result (λ ts. ts.items ≡ map (bucket_table library.now) (range_with_len 0 (bucket_count library.now.shape.hits))) }
+    ensures { IfOk result (λ ts. ts.items ≡ map (bucket_table library.now)
+        (range_with_len 0 (bucket_count library.now.shape.hits))) }
 {
     let shape = library.shape();
     let _ = shape.degree();
@@ -77,7 +78,8 @@ fn records_of(
     bucket: u32,
 ) -> Result<Rows, AllocError>
     requires tested { tested.now ≡ library.now.shape }
-    requires lists { lists.now ≡ lists_of library.now.shape.salt (bucket_count library.now.shape.hits) library.now.shape.documents }
+    requires lists { lists.now ≡ lists_of library.now.shape.salt
+        (bucket_count library.now.shape.hits) library.now.shape.documents }
     requires bucket { bucket < bucket_count library.now.shape.hits }
     ensures { IfOk result (λ t. t ≡ bucket_table library.now bucket) }
 {
@@ -93,7 +95,8 @@ fn records_of(
 #[tactic(auto, unfolding(co_bucket::specs::Bytes::bucket_bytes))]
 fn spelled(alloc: Global, library: &Library, list: &[u32]) -> Result<Vec<u8>, AllocError>
     requires { All (λ d. d < library.now.shape.documents) list.now }
-    ensures { IfOk result (λ bytes. bytes.items ≡ bucket_bytes library.now.shape.degree library.now.shape.rows (record_at library.now.records) list.now) }
+    ensures { IfOk result (λ bytes. bytes.items ≡ bucket_bytes library.now.shape.degree
+        library.now.shape.rows (record_at library.now.records) list.now) }
 {
     let shape = library.shape();
     let size = shape.rows() as usize * row_size(shape.degree());
@@ -126,7 +129,8 @@ fn record_of(library: &Library, document: u32) -> &[u8]
 
 /// Adds zeros at the end, up to a size.
 fn pad(out: &mut Vec<u8>, size: usize) -> Result<(), AllocError>
-    ensures { OnOk result (out.new.items ≡ out.old.items ++ replicate (size - length out.old.items) 0) }
+    ensures { OnOk result (out.new.items ≡ out.old.items ++ replicate (size - length out.old.items)
+        0) }
 {
     let missing = size.saturating_sub(out.len());
     for added in 0..missing {

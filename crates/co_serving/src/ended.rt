@@ -19,9 +19,11 @@ pub enum Ended {
     OutOfMemory,
 }
 
-/// How a connection was served: how many responses were written whole, and why it ended.
+/// How a connection was served.
 #[derive(Clone, Copy, Debug, PartialEq, Eq)]
 pub struct Served {
+    /// How many responses were written whole.
     pub requests: u32,
+    /// Why it ended.
     pub ended: Ended,
 }

@@ -71,7 +71,8 @@ fn read_request<C: Source>(
     length: u64,
 ) -> Result<Message, Ended>
     requires { kept conn.old ≡ None }
-    ensures reads { ReadsRequest length target (unread conn.old (C.left line.old)) (unread conn.new (C.left line.new)) (C.left line.new) result }
+    ensures reads { ReadsRequest length target (unread conn.old (C.left line.old))
+        (unread conn.new (C.left line.new)) (C.left line.new) result }
     ensures status { IfOk result MayAnswer }
     ensures kept { IfOk result (KeepsNone (kept conn.new)) }
     ensures writes { cannot_write conn.new ≡ cannot_write conn.old }
@@ -101,7 +102,8 @@ fn next_message<C: Source, W: Lengths>(
     line: &mut C,
 ) -> Result<Message, Ended>
     requires { kept conn.old ≡ None }
-    ensures reads { ReadsNext (W.wanted lengths.now) (unread conn.old (C.left line.old)) (unread conn.new (C.left line.new)) (C.left line.new) result }
+    ensures reads { ReadsNext (W.wanted lengths.now) (unread conn.old (C.left line.old))
+        (unread conn.new (C.left line.new)) (C.left line.new) result }
     ensures status { IfOk result MayAnswer }
     ensures kept { IfOk result (KeepsNone (kept conn.new)) }
     ensures writes { cannot_write conn.new ≡ cannot_write conn.old }
@@ -146,7 +148,9 @@ pub(crate) fn read_message<C: Source, A: Answering>(
 ) -> Result<Response, Ended>
     requires kept { kept conn.old ≡ None }
     requires ready { A.may_answer answering.old }
-    ensures reads { ReadsMessage A.wanted A.answers answering.old answering.new (unread conn.old (C.left line.old)) (unread conn.new (C.left line.new)) (C.left line.new) result }
+    ensures reads { ReadsMessage A.wanted A.answers answering.old answering.new
+        (unread conn.old (C.left line.old)) (unread conn.new (C.left line.new)) (C.left line.new)
+        result }
     ensures status { IfOk result (λ answer. IsTrue (is_status (status_of answer))) }
     ensures kept { IfOk result (λ answer. closes answer ≡ false → kept conn.new ≡ None) }
     ensures ready { A.may_answer answering.new }
@@ -155,12 +159,11 @@ pub(crate) fn read_message<C: Source, A: Answering>(
     ensures failed { result ≡ Err ReadFault → Rose (C.faults line.old) (C.faults line.new) }
     ensures beside { C.beside line.new ≡ C.beside line.old }
 {
-    match next_message(alloc, &*answering, conn, line) {
-        Ok(Message::Refused { response }) => Ok(response),
-        Ok(Message::Asked { request }) => {
+    match next_message(alloc, &*answering, conn, line)? {
+        Message::Refused { response } => Ok(response),
+        Message::Asked { request } => {
             let reply = answering.answer(&request);
             Ok(Response::Replied { reply })
         }
-        Err(ended) => Err(ended),
     }
 }

@@ -22,8 +22,8 @@ pub trait Service: Lengths {
     /// What a step may answer to a request of that length, and what it may leave.
     ghost steps: { Self → Request → Reply → Self → Type 0 };
 
-    /// Answers a request whose body has that length. The reply is whole: its status is 200, 400, 409
-    /// or, for want of memory and with no body, 503.
+    /// Answers a request whose body has that length. The reply is whole: its status is 200, 400,
+    /// 409 or, for want of memory and with no body, 503.
     fn step(&mut self, request: &Request) -> Reply
         requires { length request.now.body ≡ Self.wanted self.old request.now.target }
         ensures step { steps self.old request.now result self.new }
@@ -39,8 +39,8 @@ pub trait Answering: Lengths {
     /// It may answer.
     ghost may_answer: { Self → Type 0 };
 
-    /// Answers a request whose body has that length. The reply is whole: its status is 200, 400, 409
-    /// or, for want of memory, 503. It may answer again.
+    /// Answers a request whose body has that length. The reply is whole: its status is 200, 400,
+    /// 409 or, for want of memory, 503. It may answer again.
     fn answer(&mut self, request: &Request) -> Reply
         requires length { length request.now.body ≡ Self.wanted self.old request.now.target }
         requires ready { may_answer self.old }

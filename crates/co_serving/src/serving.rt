@@ -51,7 +51,8 @@ fn write_answer<K: Sink>(
     requires status { IsTrue (is_status (status_of answer.now)) }
     requires writes { cannot_write conn.old ≡ false }
     requires count { count < 1000 }
-    ensures writes { Writes false (K.put_so_far sink.old) (K.put_so_far sink.new) (response_at count answer.now) result }
+    ensures writes { Writes false (K.put_so_far sink.old) (K.put_so_far sink.new)
+        (response_at count answer.now) result }
     ensures held { held conn.new ≡ held conn.old }
     ensures kept { kept conn.new ≡ first_fault (kept conn.old) result }
     ensures cause { WriteCause false (K.faults sink.old) (K.faults sink.new) result }
@@ -71,8 +72,8 @@ fn write_answer<K: Sink>(
     }
 }
 
-// Reads the next message, has it answered and writes the response, before which `count` responses came. It
-// gives the status of a response that closes.
+// Reads the next message, has it answered and writes the response, before which `count` responses
+// came. It gives the status of a response that closes.
 fn serve_next<C: Duplex, A: Answering>(
     alloc: Global,
     answering: &mut A,
@@ -84,21 +85,21 @@ fn serve_next<C: Duplex, A: Answering>(
     requires kept { kept conn.old ≡ None }
     requires writes { cannot_write conn.old ≡ false }
     requires count { count < 1000 }
-    ensures serves { ServesMessage A.wanted A.answers answering.old answering.new (unread conn.old (C.left line.old)) (unread conn.new (C.left line.new)) (C.left line.new)
+    ensures serves { ServesMessage A.wanted A.answers answering.old answering.new
+        (unread conn.old (C.left line.old)) (unread conn.new (C.left line.new)) (C.left line.new)
         (C.put_so_far line.old) (C.put_so_far line.new) count result }
     ensures ready { A.may_answer answering.new }
     ensures kept { IfOk result (λ closing. closing ≡ None → kept conn.new ≡ None) }
     ensures writes { IfOk result (λ closing. cannot_write conn.new ≡ false) }
     ensures takes_later { C.Source.faults line.old ≤ C.Source.faults line.new }
     ensures puts_later { C.Sink.faults line.old ≤ C.Sink.faults line.new }
-    ensures read_fault { result ≡ Err ReadFault → Rose (C.Source.faults line.old) (C.Source.faults line.new) }
-    ensures write_fault { result ≡ Err WriteFault → Rose (C.Sink.faults line.old) (C.Sink.faults line.new) }
+    ensures read_fault { result ≡ Err ReadFault
+        → Rose (C.Source.faults line.old) (C.Source.faults line.new) }
+    ensures write_fault { result ≡ Err WriteFault
+        → Rose (C.Sink.faults line.old) (C.Sink.faults line.new) }
     ensures beside { C.Duplex.beside line.new ≡ C.Duplex.beside line.old }
 {
-    let answer = match read_message(alloc, answering, conn, line) {
-        Ok(answer) => answer,
-        Err(ended) => return Err(ended),
-    };
+    let answer = read_message(alloc, answering, conn, line)?;
     match write_answer(conn, line, &answer, count) {
         Ok(()) => Ok(status_if_closing(&answer)),
         Err(_) => Err(Ended::WriteFault),
@@ -116,15 +117,17 @@ fn closed_by(requests: u32, status: u16) -> Ended
     Ended::Refused { status }
 }
 
-/// Serves one connection. Each message of its input is answered in order, whatever pieces the input comes
-/// in: by a refusal, or by what may answer. It ends with the input, with the first response that closes,
-/// with the 1,000th response, or where taking or putting fails.
+/// Serves one connection. Each message of its input is answered in order, whatever pieces the input
+/// comes in: by a refusal, or by what may answer. It ends with the input, with the first response
+/// that closes, with the 1,000th response, or where taking or putting fails.
 pub fn serve_by<C: Duplex, A: Answering>(alloc: Global, answering: &mut A, line: &mut C) -> Served
     requires { A.may_answer answering.old }
     ensures serves { IfSome (C.left line.old) (λ input. IfSome (C.put_so_far line.old) (λ put.
-        Serves A.wanted A.answers answering.old answering.new input (C.left line.new) put (C.put_so_far line.new) result.requests result.ended)) }
+        Serves A.wanted A.answers answering.old answering.new input (C.left line.new) put
+        (C.put_so_far line.new) result.requests result.ended)) }
     ensures requests { result.requests ≤ 1000 }
-    ensures causes { HaveCauses result.ended (C.Source.faults line.old) (C.Source.faults line.new) (C.Sink.faults line.old) (C.Sink.faults line.new) }
+    ensures causes { HaveCauses result.ended (C.Source.faults line.old) (C.Source.faults line.new)
+        (C.Sink.faults line.old) (C.Sink.faults line.new) }
     ensures beside { C.Duplex.beside line.new ≡ C.Duplex.beside line.old }
 {
     let Ok(mut conn) = Conn::new(alloc) else {
@@ -155,10 +158,13 @@ pub fn serve_by<C: Duplex, A: Answering>(alloc: Global, answering: &mut A, line:
 /// Serves one connection by a service, which may answer from any state on.
 pub fn serve_service<C: Duplex, S: Service>(alloc: Global, service: &mut S, line: &mut C) -> Served
     ensures serves { IfSome (C.left line.old) (λ input. IfSome (C.put_so_far line.old) (λ put.
-        Serves S.wanted S.steps service.old service.new input (C.left line.new) put (C.put_so_far line.new) result.requests result.ended)) }
+        Serves S.wanted S.steps service.old service.new input (C.left line.new) put
+        (C.put_so_far line.new) result.requests result.ended)) }
     ensures requests { result.requests ≤ 1000 }
-    ensures read_fault { result.ended ≡ ReadFault → Rose (C.Source.faults line.old) (C.Source.faults line.new) }
-    ensures write_fault { result.ended ≡ WriteFault → Rose (C.Sink.faults line.old) (C.Sink.faults line.new) }
+    ensures read_fault { result.ended ≡ ReadFault
+        → Rose (C.Source.faults line.old) (C.Source.faults line.new) }
+    ensures write_fault { result.ended ≡ WriteFault
+        → Rose (C.Sink.faults line.old) (C.Sink.faults line.new) }
     ensures beside { C.Duplex.beside line.new ≡ C.Duplex.beside line.old }
     ensures takes_later { C.Source.faults line.old ≤ C.Source.faults line.new }
     ensures puts_later { C.Sink.faults line.old ≤ C.Sink.faults line.new }

@@ -1,7 +1,12 @@
-//! What no clause says: that connections are served, in any pieces, and the bytes of some.
+//! What no clause says: that connections are served, in any pieces, and the bytes of some; and that
+//! the port and the dial of the system meet.
+ghost use Rattle.std.specs.Prelude.{◌≡◌, true, OnSome};
+
 use super::*;
+use co_http::{Conn, Head, TcpDial, Verb};
 use co_link::{
-    Bytes, FailingCalls, MemoryConnection, MemorySink, MemorySource, Reply, Request, Target,
+    Bytes, Dial, FailingCalls, Link, LinkFault, MemoryConnection, MemorySink, MemorySource, Port,
+    Reply, Request, Target, TcpPort,
 };
 use std::alloc::{AllocError, Global};
 use std::process::Abort;
@@ -93,5 +98,51 @@ fn connections_are_served(rt: HostRuntime) -> Result<(), Fail> {
     let (served, put) = serve_in(alloc, "GET", 9, &[0])?;
     assert_eq!(rt; served.ended, Ended::ReadFault);
     assert!(rt; put.is_empty());
+    Ok(())
+}
+
+// The first port of a few that nobody has.
+fn listen_somewhere<P: Port>(port: &mut P) -> Option<u16>
+    ensures { OnSome result ((P.tells port.new).listening ≡ true) }
+{
+    for number in 47_370..47_420 {
+        if port.listen(number).is_ok() {
+            return Some(number);
+        }
+    }
+    None
+}
+
+// The response is written before the request comes, so that one thread serves both ends.
+#[test]
+fn over_sockets(rt: HostRuntime) -> Result<(), Fail> {
+    let alloc = rt.alloc();
+    let mut port = TcpPort::new(&rt);
+    let Some(number) = listen_somewhere(&mut port) else {
+        return Err(Fail::from(LinkFault::Failed));
+    };
+    let mut link = TcpDial::new(&rt, alloc);
+    link.dial("127.0.0.1", number)?;
+    port.accept()?;
+    let mut conn = Conn::new(alloc)?;
+    conn.write_response(&mut port, 200, false, b"wind")?;
+    let request = Request {
+        target: Target::Score,
+        body: Bytes::copy_of(alloc, b"sea")?,
+    };
+    let reply = link.exchange(request, 4)?;
+    assert_eq!(rt; reply.body.as_slice(), b"wind".as_slice());
+    assert_eq!(rt;
+        conn.read_head(&mut port)?,
+        Some(Head {
+            method: Verb::Post,
+            target: Some(Target::Score),
+            length: Some(3),
+        })
+    );
+    assert_eq!(rt;
+        conn.read_body(alloc, &mut port, 3)?.as_slice(),
+        b"sea".as_slice()
+    );
     Ok(())
 }

@@ -2,7 +2,6 @@
 
 ghost use Rattle.std.specs.Prelude.{◌≡◌, ◌*◌, ◌<◌, length, IfOk, IfErr, OnOk};
 ghost use Rattle.co_math.specs.Coefficients.{AreBelow};
-ghost use Rattle.co_ring.specs.Polynomials.{degree_of};
 ghost use Rattle.co_slots.specs.Payloads.{IsPayload};
 
 use co_link::Bytes;
@@ -27,13 +26,14 @@ pub fn encode_bytes(alloc: Global, degree: Degree, bytes: &[u8]) -> Result<Poly,
     ensures modulus { IfOk result (λ p. p.modulus ≡ Modulus.Plain) }
     ensures payload { IfOk result (λ p. IsPayload bytes.now p.coeffs) }
 {
-    let mut poly = Poly::zero(alloc, Modulus::Plain, degree)?;
-    for k in 0..degree.get() as usize {
+    let n = degree.get() as usize;
+    let mut coeffs = Vec::with_capacity(alloc, n)?;
+    for k in 0..n {
         let high = bytes[2 * k] as u64;
         let low = bytes[2 * k + 1] as u64;
-        poly.set(k, 256 * high + low);
+        coeffs.push(256 * high + low)?;
     }
-    Ok(poly)
+    Ok(Poly::from_vec(Modulus::Plain, coeffs))
 }
 
 ghost use Rattle.co_slots.specs.Faults.{IsCause};
@@ -46,7 +46,9 @@ pub fn decode_bytes(alloc: Global, poly: &Poly) -> Result<Bytes, ByteFault>
     ensures whole { OnOk result (AreBelow 65536 poly.now.coeffs) }
     ensures fault { IfErr result (IsCause poly.now.coeffs) }
 {
-    let mut bytes = Bytes::new(alloc);
+    let Ok(mut bytes) = Bytes::with_capacity(alloc, 2 * poly.degree()) else {
+        return Err(ByteFault::OutOfMemory);
+    };
     for k in 0..poly.degree() {
         let coefficient = poly.coeff(k);
         if coefficient == 65536 {

@@ -28,6 +28,8 @@ pub record AreKept (s : CipherSums) (count : ℕ) : Type 0 where
   pub few : count ≤ most_products
 
 -- three products of ciphertexts and plain polynomials added to a ciphertext, one after another
-abbrev pub three_added : Ciphertext → Ciphertext → Ciphertext → Ciphertext → List ℕ → List ℕ → List ℕ → Ciphertext
+abbrev pub three_added : Ciphertext → Ciphertext → Ciphertext → Ciphertext
+    → List ℕ → List ℕ → List ℕ → Ciphertext
 three_added c a₁ a₂ a₃ p₁ p₂ p₃ =
-    ciphertext_sum (ciphertext_sum (ciphertext_sum c (plain_product a₁ p₁)) (plain_product a₂ p₂)) (plain_product a₃ p₃)
+    ciphertext_sum (ciphertext_sum (ciphertext_sum c (plain_product a₁ p₁)) (plain_product a₂ p₂))
+    (plain_product a₃ p₃)

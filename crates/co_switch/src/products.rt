@@ -2,13 +2,14 @@
 
 ghost use Rattle.std.specs.Prelude.{ℕ, List, [], ◌∷◌, ◌≡◌, ◌<◌, ◌≤◌, ◌+◌, length, slice_index_or, IfOk};
 ghost use Rattle.co_math.specs.Parameters.{digit_count, q};
-ghost use Rattle.co_math.specs.Coefficients.{residues_of};
+ghost use Rattle.co_math.specs.Coefficients.{IsDegree, coefficients, residues_of};
 ghost use Rattle.co_ring.specs.Product_sums.{most_products};
-ghost use Rattle.co_rns.specs.Spectra.{IsPairSumWithAll, PairValues, spectrum_degree};
+ghost use Rattle.co_rns.specs.Spectra.{IsNoPairSum, IsPairSumOf, IsPairSumWithAll, IsSpectrumOf, PairValues, spectrum_degree};
 ghost use Rattle.co_switch.specs.Keys.{AreOfDegree, AreSpectra};
-ghost use Rattle.co_switch.specs.Switches.{digit_sum};
+ghost use Rattle.co_switch.specs.Switches.{digit_polynomial, digit_sum};
 
 use co_math::parameters::DIGIT_COUNT;
+use co_ring::Degree;
 use co_rns::{Decomposition, Pair, PairSpectrum, PairSum, Tables};
 use std::alloc::{AllocError, Global};
 
@@ -34,44 +35,121 @@ pub fn digit_sums(
 {
     let _ = poly.degree();
     let degree = tables.degree();
-    let mut digits = Decomposition::zero(alloc, degree)?;
-    digits.set(poly);
-    let mut low = PairSpectrum::zero(alloc, degree)?;
-    let mut middle = PairSpectrum::zero(alloc, degree)?;
-    let mut high = PairSpectrum::zero(alloc, degree)?;
-    let mut sum0 = PairSum::zero(alloc, degree)?;
-    let mut sum1 = PairSum::zero(alloc, degree)?;
-    for pass in 0..DIGIT_COUNT / 3 {
-        let index = 3 * pass;
-        digits.to_spectrum(tables, index, &mut low);
-        digits.to_spectrum(tables, index + 1, &mut middle);
-        digits.to_spectrum(tables, index + 2, &mut high);
-        add_three(&mut sum0, &low, &middle, &high, values0, index as usize);
-        add_three(&mut sum1, &low, &middle, &high, values1, index as usize);
-    }
-    let first = sum0.polynomial(alloc, tables, &mut low)?;
-    let second = sum1.polynomial(alloc, tables, &mut low)?;
+    let mut room = digit_room(alloc, degree)?;
+    let (mut sum0, mut sum1) = no_sums(alloc, degree)?;
+    room.digits.set(poly);
+    gather_digits(&mut room, tables, &mut sum0, values0, &mut sum1, values1);
+    let first = sum0.polynomial(alloc, tables, &mut room.low)?;
+    let second = sum1.polynomial(alloc, tables, &mut room.low)?;
     Ok((first, second))
 }
 
-/// Adds the products of three digits and a key's polynomials, from a place on.
-fn add_three(
-    sum: &mut PairSum,
-    low: &PairSpectrum,
-    middle: &PairSpectrum,
-    high: &PairSpectrum,
-    keys: &[PairSpectrum],
-    at: usize,
+/// The digits of a polynomial, and the values of three of them.
+#[derive(Drop)]
+struct DigitRoom {
+    digits: Decomposition,
+    low: PairSpectrum,
+    middle: PairSpectrum,
+    high: PairSpectrum,
+}
+
+/// Room for the digits of a polynomial.
+fn digit_room(alloc: Global, degree: Degree) -> Result<DigitRoom, AllocError>
+    ensures digits { IfOk result (λ room. length room.digits ≡ degree) }
+    ensures low { IfOk result (λ room. spectrum_degree room.low ≡ degree) }
+    ensures middle { IfOk result (λ room. spectrum_degree room.middle ≡ degree) }
+    ensures high { IfOk result (λ room. spectrum_degree room.high ≡ degree) }
+{
+    Ok(DigitRoom {
+        digits: Decomposition::zero(alloc, degree)?,
+        low: PairSpectrum::zero(alloc, degree)?,
+        middle: PairSpectrum::zero(alloc, degree)?,
+        high: PairSpectrum::zero(alloc, degree)?,
+    })
+}
+
+/// Two sums of no products.
+fn no_sums(alloc: Global, degree: Degree) -> Result<(PairSum, PairSum), AllocError>
+    ensures first { IfOk result (λ sums. IsNoPairSum degree sums.0) }
+    ensures second { IfOk result (λ sums. IsNoPairSum degree sums.1) }
+{
+    Ok((PairSum::zero(alloc, degree)?, PairSum::zero(alloc, degree)?))
+}
+
+/// Adds to two sums that are none yet the products of all digits and a key's polynomials, three a
+/// pass.
+fn gather_digits(
+    room: &mut DigitRoom,
+    tables: &Tables,
+    sum0: &mut PairSum,
+    values0: &[PairSpectrum],
+    sum1: &mut PairSum,
+    values1: &[PairSpectrum],
 )
+    requires degree { IsDegree tables.now }
+    requires digits_degree { length room.old.digits ≡ tables.now }
+    requires low_degree { spectrum_degree room.old.low ≡ tables.now }
+    requires middle_degree { spectrum_degree room.old.middle ≡ tables.now }
+    requires high_degree { spectrum_degree room.old.high ≡ tables.now }
+    requires none0 { IsNoPairSum tables.now sum0.old }
+    requires values0 { AreOfDegree tables.now values0.now }
+    requires none1 { IsNoPairSum tables.now sum1.old }
+    requires values1 { AreOfDegree tables.now values1.now }
+    ensures low { spectrum_degree room.new.low ≡ tables.now }
+    ensures first_degree { length sum0.new.first ≡ tables.now }
+    ensures second_degree { length sum1.new.first ≡ tables.now }
+    ensures first { (ks : List (List ℕ)) → AreSpectra tables.now ks values0.now
+        → IsPairSumOf tables.now (digit_sum room.old.digits ks) sum0.new }
+    ensures second { (ks : List (List ℕ)) → AreSpectra tables.now ks values1.now
+        → IsPairSumOf tables.now (digit_sum room.old.digits ks) sum1.new }
+{
+    for pass in 0..DIGIT_COUNT / 3 {
+        let index = 3 * pass;
+        digit_values(room, tables, index);
+        add_three(sum0, room, values0, index as usize);
+        add_three(sum1, room, values1, index as usize);
+    }
+}
+
+/// The values of the polynomials of three digits, from a place on.
+fn digit_values(room: &mut DigitRoom, tables: &Tables, index: u32)
+    requires place { index + 2 < digit_count }
+    requires degree { length room.old.digits ≡ tables.now }
+    requires low_degree { spectrum_degree room.old.low ≡ tables.now }
+    requires middle_degree { spectrum_degree room.old.middle ≡ tables.now }
+    requires high_degree { spectrum_degree room.old.high ≡ tables.now }
+    ensures same { room.new.digits ≡ room.old.digits }
+    ensures low { IsSpectrumOf tables.now
+        (coefficients (digit_polynomial index room.old.digits)) room.new.low }
+    ensures middle { IsSpectrumOf tables.now
+        (coefficients (digit_polynomial (index + 1) room.old.digits)) room.new.middle }
+    ensures high { IsSpectrumOf tables.now
+        (coefficients (digit_polynomial (index + 2) room.old.digits)) room.new.high }
+{
+    room.digits.to_spectrum(tables, index, &mut room.low);
+    room.digits.to_spectrum(tables, index + 1, &mut room.middle);
+    room.digits.to_spectrum(tables, index + 2, &mut room.high);
+}
+
+/// Adds the products of three digits and a key's polynomials, from a place on.
+fn add_three(sum: &mut PairSum, room: &DigitRoom, keys: &[PairSpectrum], at: usize)
     requires keys { AreOfDegree (length sum.old.first) keys.now }
-    requires low_degree { spectrum_degree low.now ≡ length sum.old.first }
-    requires middle_degree { spectrum_degree middle.now ≡ length sum.old.first }
-    requires high_degree { spectrum_degree high.now ≡ length sum.old.first }
+    requires low_degree { spectrum_degree room.now.low ≡ length sum.old.first }
+    requires middle_degree { spectrum_degree room.now.middle ≡ length sum.old.first }
+    requires high_degree { spectrum_degree room.now.high ≡ length sum.old.first }
     requires place { at + 2 < digit_count }
     requires room { sum.old.count + 3 ≤ most_products }
     ensures { (d : PairValues) → IsPairSumWithAll sum.old
-        ((low.now, slice_index_or keys.now at d) ∷ (middle.now, slice_index_or keys.now (at + 1) d)
-        ∷ (high.now, slice_index_or keys.now (at + 2) d) ∷ []) sum.new }
+        ((room.now.low, slice_index_or keys.now at d)
+        ∷ (room.now.middle, slice_index_or keys.now (at + 1) d)
+        ∷ (room.now.high, slice_index_or keys.now (at + 2) d) ∷ []) sum.new }
 {
-    sum.add_three(low, &keys[at], middle, &keys[at + 1], high, &keys[at + 2]);
+    sum.add_three(
+        &room.low,
+        &keys[at],
+        &room.middle,
+        &keys[at + 1],
+        &room.high,
+        &keys[at + 2],
+    );
 }

@@ -5,9 +5,7 @@ ghost use Rattle.co_transform.specs.Trees.{AreWithin, HaveResidues};
 ghost use Rattle.co_transform.specs.Gathered.{Gathered, GatheredAll, IsReducer};
 
 use crate::products::mul_shoup;
-use crate::tables::quotient;
-
-const TWO_TO_64: u128 = 1 << 64;
+use crate::tables::{TWO_TO_64, quotient};
 
 /// What takes any number of 128 bits modulo q by products alone.
 #[derive(Clone, Copy)]

@@ -1,34 +1,12 @@
 //! Coeus: keyword search over a library's documents.
 //!
-//! `run` does all that the program does, over files, a dial, a port, random words and sinks that are
-//! handed in; its contract says what each status means. `main` makes the real devices and calls it.
-//!
-//! Not here: what a corpus is (co_corpus), what is found (co_tfidf), how it is printed (co_text),
-//! how a corpus is published (co_library), what a shape's bounds are (co_noise), what a session
-//! answers (co_server), what is said on a connection (co_connections), and how a library is asked
-//! (co_client).
+//! `main` makes the real devices, and calls `run` of co_commands, which does all that the program
+//! does and whose contract says what each status means.
 #![tactic(auto)]
 
-mod access;
-mod limits;
-mod local;
-mod making;
-mod options;
-mod plain;
-mod program;
-mod publish;
-mod refusals;
-mod rehearse;
-mod remote;
-mod search_faults;
-mod serving;
-mod shape;
-mod words;
-
-use crate::refusals::{Refusal, tell};
+use co_commands::{Refusal, run, tell};
 use co_http::TcpDial;
 use co_link::{Sink, StdFiles, StdSink, TcpPort};
-pub use program::run;
 use rand_chacha::ChaCha20Rng;
 use rand_core::SeedableRng;
 use std::io::Read;

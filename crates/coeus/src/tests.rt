@@ -1,27 +1,54 @@
 //! The program over devices in memory of which one call fails, and then the same run again with the
 //! same devices: how each run ends, and what stands after it.
+ghost use Rattle.std.specs.Prelude.{◌≡◌};
 ghost use Rattle.co_link.specs.Fresh.{IsFresh};
 
 use super::*;
-use crate::local::load;
-use crate::publish::import;
-use crate::words::ImportCommand;
-use co_library::Settings;
+use co_corpus::read_corpus;
+use co_library::{Settings, publish};
 use co_link::{
     Bytes, Dial, Exchange, FailNth, FailingCalls, Files, MemoryConnection, MemoryFiles, MemoryPort,
     MemorySink, MemorySource, Target,
 };
+use co_noise::{Shape, Tested, test};
 use co_server::{Loaded, LocalLink, Runs};
 use std::alloc::Global;
 use std::collections::BTreeMap;
 use std::process::Abort;
 use std::thread::Threads;
 
-const C1: &[u8] =
-    b"{\"title\":\"Sea\",\"text\":\"sea sea wind\"}\n{\"title\":\"Harbour\",\"text\":\"harbour wind\"}\n{\"title\":\"Tide\",\"text\":\"tide sea\"}\n{\"title\":\"Moor\",\"text\":\"moor\"}\n";
+const C1: &[u8] = b"{\"title\":\"Sea\",\"text\":\"sea sea wind\"}\n\
+    {\"title\":\"Harbour\",\"text\":\"harbour wind\"}\n\
+    {\"title\":\"Tide\",\"text\":\"tide sea\"}\n\
+    {\"title\":\"Moor\",\"text\":\"moor\"}\n";
 
 const FOUND: &[u8] =
     b"hits 3\n1 0 12 Sea\n2 1 4 Harbour\n3 2 4 Tide\nunknown 0\ndocument 0 12\nsea sea wind\n";
+
+const IMPORTED: &[u8] = b"documents 4 terms 5 rows 1 bins 1 chunks 1\n";
+
+const SERVED: &[u8] = b"connection 1 requests 1 closed\n\
+    connection 2 requests 1 closed\n";
+
+const ONE_MORE: &[u8] = b"connection 1 requests 1 closed\n\
+    connection 1 requests 1 closed\n\
+    connection 2 requests 1 closed\n";
+
+const UNREAD: &[u8] = b"connection 1 requests 0 read fault\n\
+    connection 2 requests 1 closed\n";
+
+const UNREAD_AND_SERVED: &[u8] = b"connection 1 requests 0 read fault\n\
+    connection 2 requests 1 closed\n\
+    connection 1 requests 1 closed\n\
+    connection 2 requests 1 closed\n";
+
+const UNWRITTEN: &[u8] = b"connection 1 requests 0 write fault\n\
+    connection 2 requests 1 closed\n";
+
+const UNWRITTEN_AND_SERVED: &[u8] = b"connection 1 requests 0 write fault\n\
+    connection 2 requests 1 closed\n\
+    connection 1 requests 1 closed\n\
+    connection 2 requests 1 closed\n";
 
 const GET: &[u8] = b"GET /public HTTP/1.1\r\nHost: archive\r\n\r\n";
 
@@ -45,8 +72,8 @@ enum Device {
     Err,
 }
 
-// How a run ends: its status, what stands on both outputs, and the lengths of the requests that were
-// made.
+// How a run ends: its status, what stands on both outputs, and the lengths of the requests that
+// were made.
 #[derive(Clone, Copy)]
 struct End<'a> {
     status: u8,
@@ -104,11 +131,17 @@ fn files(rt: &impl Abort, alloc: Global) -> BTreeMap<String, Bytes> {
     files
 }
 
-// The corpus, published.
-fn published(rt: &impl Abort, alloc: Global, degree: u32) -> MemoryFiles {
-    let none = FailingCalls::none(alloc);
-    let mut files = MemoryFiles::with_files(alloc, files(rt, alloc), none);
-    let mut out = sink(rt, alloc, FailingCalls::none(alloc));
+// A shape that passes the test.
+#[tactic(auto, unfolding(co_noise::specs::Bounds::test_of))]
+fn passed(rt: &impl Abort, shape: &Shape) -> Tested
+    ensures { result ≡ shape.now }
+{
+    test(shape).expect(rt, "a shape that passes")
+}
+
+// The bytes of the corpus's library, and the library made ready for replies.
+fn published(rt: &impl Abort, alloc: Global, degree: u32) -> (Bytes, Loaded) {
+    let corpus = read_corpus(alloc, C1).expect(rt, "a corpus");
     let settings = Settings {
         degree,
         terms: 16_384,
@@ -116,13 +149,11 @@ fn published(rt: &impl Abort, alloc: Global, degree: u32) -> MemoryFiles {
         salt: 0,
         chunks: 1,
     };
-    let command = ImportCommand {
-        corpus: "c1",
-        library: "lib",
-        settings,
-    };
-    assert!(rt; import(alloc, &command, &mut files, &mut out).is_ok());
-    files
+    let library = publish(alloc, &corpus, &settings).expect(rt, "a library");
+    let bytes = library.write(alloc).expect(rt, "memory");
+    let tested = passed(rt, library.shape());
+    let loaded = Loaded::new(alloc, library, tested).expect(rt, "memory");
+    (bytes, loaded)
 }
 
 fn sink(rt: &impl Abort, alloc: Global, calls: FailingCalls) -> MemorySink {
@@ -184,7 +215,8 @@ fn holds(files: &mut MemoryFiles, name: &str, bytes: &[u8]) -> bool {
     }
 }
 
-// Whether these are the exchanges of a search with requests of these lengths, from its first one on.
+// Whether these are the exchanges of a search with requests of these lengths, from its first one
+// on.
 fn are_asked(exchanges: &[Exchange], lengths: &[usize]) -> bool {
     let mut same = exchanges.len() == lengths.len();
     for ((exchange, target), length) in exchanges.iter().zip(TARGETS).zip(lengths) {
@@ -273,12 +305,8 @@ fn both_end<R: Runs, T: Threads + Sync + Abort>(
 
 // Whether both runs of a case end as it says.
 fn ends_twice<T: Threads + Sync + Abort>(rt: &T, alloc: Global, case: &Case<'_>) -> bool {
-    let mut published = published(rt, alloc, case.degree);
-    let library = published.read("lib", 65_536).expect(rt, "a library");
-    match load(alloc, "lib", &mut published) {
-        Ok(loaded) => both_end(rt, rt, alloc, case, &loaded, library.as_slice()),
-        Err(_) => false,
-    }
+    let (library, loaded) = published(rt, alloc, case.degree);
+    both_end(rt, rt, alloc, case, &loaded, library.as_slice())
 }
 
 // A run at degree 16 that has this status, leaves the output and says a line; and again, which
@@ -311,45 +339,30 @@ fn answers_again<'a>(
     }
 }
 
+// The read of a file fails, the put of an answer, the write of a library, the puts of a refusal.
 #[test]
-fn plain_again(rt: HostRuntime) {
-    let (alloc, text) = (rt.alloc(), "plain c1 -- sea wind");
-    let read = answers_again(text, Device::Files, &[0], 9, b"coeus: file c1\n", FOUND);
-    assert!(rt; ends_twice(&rt, alloc, &read));
-    let put = answers_again(text, Device::Out, &[0], 9, b"coeus: output\n", FOUND);
-    assert!(rt; ends_twice(&rt, alloc, &put));
-}
-
-#[test]
-fn local_again(rt: HostRuntime) {
-    let (alloc, text) = (rt.alloc(), "local lib -- sea wind");
-    let read = answers_again(text, Device::Files, &[0], 9, b"coeus: file lib\n", FOUND);
-    assert!(rt; ends_twice(&rt, alloc, &read));
-    let put = answers_again(text, Device::Out, &[0], 9, b"coeus: output\n", FOUND);
-    assert!(rt; ends_twice(&rt, alloc, &put));
-}
-
-#[test]
-fn import_again(rt: HostRuntime) {
-    let (alloc, text) = (rt.alloc(), "import c1 other --degree 512");
-    let line = b"documents 4 terms 5 rows 1 bins 1 chunks 1\n";
-    let write = answers_again(text, Device::Files, &[1], 9, b"coeus: file other\n", line);
-    assert!(rt; ends_twice(&rt, alloc, &write));
-}
-
-// The line of a refusal can't be put.
-#[test]
-fn refusal_again(rt: HostRuntime) {
-    let line = b"coeus: corpus: no document\n";
-    let mut case = answers_again("plain empty -- sea", Device::Err, &[0, 1, 2], 3, b"", b"");
-    case.ends[1].status = 3;
-    case.ends[1].err = line;
-    assert!(rt; ends_twice(&rt, rt.alloc(), &case));
+fn files_again(rt: HostRuntime) {
+    let (plain, local) = ("plain c1 -- sea wind", "local lib -- sea wind");
+    let (import, line) = ("import c1 other --degree 512", IMPORTED);
+    let mut refusal = answers_again("plain empty -- sea", Device::Err, &[0, 1, 2], 3, b"", b"");
+    refusal.ends[1].status = 3;
+    refusal.ends[1].err = b"coeus: corpus: no document\n";
+    let cases = [
+        answers_again(plain, Device::Files, &[0], 9, b"coeus: file c1\n", FOUND),
+        answers_again(plain, Device::Out, &[0], 9, b"coeus: output\n", FOUND),
+        answers_again(local, Device::Files, &[0], 9, b"coeus: file lib\n", FOUND),
+        answers_again(local, Device::Out, &[0], 9, b"coeus: output\n", FOUND),
+        answers_again(import, Device::Files, &[1], 9, b"coeus: file other\n", line),
+        refusal,
+    ];
+    for case in &cases {
+        assert!(rt; ends_twice(&rt, rt.alloc(), case));
+    }
 }
 
 const SEARCH: &str = "search localhost 8080 -- sea wind";
 
-// Each exchange fails once.
+// Each exchange of a search fails once.
 #[test]
 fn search_again(rt: HostRuntime) {
     let asked = [0, 10_752, 448, 10_752, 448];
@@ -371,43 +384,19 @@ fn dial_again(rt: HostRuntime) {
     assert!(rt; ends_twice(&rt, rt.alloc(), &case));
 }
 
-const SERVE: &str = "serve lib --connections 2";
-
-const SERVED: &[u8] = b"connection 1 requests 1 closed\nconnection 2 requests 1 closed\n";
-
-// The port doesn't listen.
+// Two connections are served, where the port doesn't listen at first, or doesn't accept the second,
+// or a take or a put of the first fails.
 #[test]
-fn listen_again(rt: HostRuntime) {
-    let case = answers_again(SERVE, Device::Port, &[0], 7, b"coeus: link\n", SERVED);
-    assert!(rt; ends_twice(&rt, rt.alloc(), &case));
-}
-
-// The port doesn't accept a second connection.
-#[test]
-fn accept_again(rt: HostRuntime) {
-    let twice =
-        b"connection 1 requests 1 closed\nconnection 1 requests 1 closed\nconnection 2 requests 1 closed\n";
-    let mut case = answers_again(SERVE, Device::Port, &[2], 7, b"coeus: link\n", twice);
-    case.ends[0].out = b"connection 1 requests 1 closed\n";
-    assert!(rt; ends_twice(&rt, rt.alloc(), &case));
-}
-
-// The first take of the first connection fails.
-#[test]
-fn take_again(rt: HostRuntime) {
-    let twice =
-        b"connection 1 requests 0 read fault\nconnection 2 requests 1 closed\nconnection 1 requests 1 closed\nconnection 2 requests 1 closed\n";
-    let mut case = answers_again(SERVE, Device::Takes, &[0], 0, b"", twice);
-    case.ends[0].out = b"connection 1 requests 0 read fault\nconnection 2 requests 1 closed\n";
-    assert!(rt; ends_twice(&rt, rt.alloc(), &case));
-}
-
-// The first put of the first connection fails.
-#[test]
-fn put_again(rt: HostRuntime) {
-    let twice =
-        b"connection 1 requests 0 write fault\nconnection 2 requests 1 closed\nconnection 1 requests 1 closed\nconnection 2 requests 1 closed\n";
-    let mut case = answers_again(SERVE, Device::Puts, &[0], 0, b"", twice);
-    case.ends[0].out = b"connection 1 requests 0 write fault\nconnection 2 requests 1 closed\n";
-    assert!(rt; ends_twice(&rt, rt.alloc(), &case));
+fn serve_again(rt: HostRuntime) {
+    let text = "serve lib --connections 2";
+    let listens = answers_again(text, Device::Port, &[0], 7, b"coeus: link\n", SERVED);
+    let mut accepts = answers_again(text, Device::Port, &[2], 7, b"coeus: link\n", ONE_MORE);
+    accepts.ends[0].out = b"connection 1 requests 1 closed\n";
+    let mut takes = answers_again(text, Device::Takes, &[0], 0, b"", UNREAD_AND_SERVED);
+    takes.ends[0].out = UNREAD;
+    let mut puts = answers_again(text, Device::Puts, &[0], 0, b"", UNWRITTEN_AND_SERVED);
+    puts.ends[0].out = UNWRITTEN;
+    for case in &[listens, accepts, takes, puts] {
+        assert!(rt; ends_twice(&rt, rt.alloc(), case));
+    }
 }

@@ -6,7 +6,7 @@ use Rattle.co_matvec.proofs.Reaching.{none_turned, one_turned}
 use Rattle.co_matvec.proofs.units.turned_back.Goals as goal
 
 pub loop-a-init : goal.loop-a-init
-loop-a-init c = none_turned c.args.tables.now c.args.sums.now c.new-replies.result.items c.new-replies.ensures.items
+loop-a-init c = none_turned c.args.tables.now c.args.sums.now c.in_ok-replies.replies.items c.in_ok-replies.ensures.items
 
 pub loop-a-preserved : goal.loop-a-preserved
 loop-a-preserved c =

@@ -2,10 +2,10 @@ use Rattle.std.proofs.Common.{◌≡◌, ◌∙◌, ◌<◌, All, sym, ap, subst
 use Rattle.co_noise.specs.Shapes.{Numbers}
 use Rattle.co_noise.specs.Bounds.{HasRoom}
 use Rattle.co_bucket.specs.Bytes.{record_chunks, bucket_bytes}
-use Rattle.co_rounds.specs.Serving.{record_at, bucket_table, bucket_documents}
+use Rattle.co_rounds.specs.Serving.{record_at, bucket_table}
 use Rattle.co_rounds.proofs.Recorded.{listed_below}
 use Rattle.co_rounds.proofs.Retrievable.{is-bucket_table}
-use Rattle.co_server.proofs.Bucketed.{table, IsRoomy, is_roomy, same_table, renamed, list_is, list_there}
+use Rattle.co_server.proofs.Bucketed.{table, is_roomy, same_table, renamed, list_is, list_there}
 use Rattle.co_server.proofs.tables.records_of.Goals as goal
 
 pub list-requires : goal.list-requires

@@ -12,5 +12,5 @@ returns c = λ d.
     let two = get_or_read keys (at + 1) c.index-keys-at-2.result (omega (arith, c.requires.place, count)) c.index-keys-at-2.is d in
     let three = get_or_read keys (at + 2) c.index-keys-at-3.result (omega (arith, c.requires.place, count)) c.index-keys-at-3.is d in
     subst (λ (ps : List (PairValues × PairValues)). IsPairSumWithAll c.args.sum.now ps c.add_three.new.self)
-    (λ i. (c.args.low.now, one i) ∷ (c.args.middle.now, two i) ∷ (c.args.high.now, three i) ∷ [])
+    (λ i. (c.args.room.now.low, one i) ∷ (c.args.room.now.middle, two i) ∷ (c.args.room.now.high, three i) ∷ [])
     c.add_three.ensures

@@ -1,4 +1,4 @@
-use Rattle.std.proofs.Common.{◌≡◌, ◌+◌, [], ◌∷◌, ap, ◌∙◌, arith}
+use Rattle.std.proofs.Common.{◌+◌, [], ◌∷◌, ap, ◌∙◌, arith}
 use Rattle.co_ring.specs.Product_sums.{Sums}
 use Rattle.co_ring.proofs.Summing.{as_all, held, held_size, last_of_all, leaves_below, leaves_fit, leaves_within, written_in_order, written_leaves}
 use Rattle.co_ring.proofs.sums.ProductSum.add_product.Goals as goal

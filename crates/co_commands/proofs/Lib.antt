@@ -1,0 +1,15 @@
+pub mod Drawing
+pub mod Ending
+pub mod FewTerms
+pub mod Generated
+pub mod Importing
+pub mod Keywords
+pub mod Known
+pub mod Outcomes
+pub mod Rehearsing
+pub mod Remotes
+pub mod Rest
+pub mod Searching
+pub mod Serves
+pub mod Talks
+pub mod Telling

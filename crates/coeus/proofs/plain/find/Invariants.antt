@@ -1,4 +1,0 @@
-use Rattle.coeus.proofs.plain.find.Given as goal
-
-abbrev pub ghost-plain_search : goal.ghost-plain_search
-ghost-plain_search g a = g.most

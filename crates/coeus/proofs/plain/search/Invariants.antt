@@ -1,4 +1,0 @@
-use Rattle.coeus.proofs.plain.search.Given as goal
-
-abbrev pub ghost-find : goal.ghost-find
-ghost-find a = a.terms
