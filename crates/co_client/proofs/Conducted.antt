@@ -229,7 +229,7 @@ module _ (run : Search) (was : Option (List Exchange)) where
     module _ (last : Option (List Exchange)) (reply5 : List ℕ) (left : Stream) (f : HasFetched last reply5 left) where
       -- memory is wanting, or it ends as the records and the bin show
       ends-told : (result wanted : Result Found SearchFault) → IsReadAs result wanted → Told run was last wanted left → Told run was last result left
-      ends-told (Ok found) wanted h told = subst (λ (r : Result Found SearchFault). Told run was last r left) h told
+      ends-told (Ok answer) wanted h told = subst (λ (r : Result Found SearchFault). Told run was last r left) h told
       ends-told (Err fault) wanted h told =
           ⊎_elim
           (λ e.

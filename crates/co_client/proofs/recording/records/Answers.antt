@@ -82,7 +82,7 @@ read_records-requires-clause-placed g c =
 pub returns-clause-read : goal.returns-clause-read
 returns-clause-read g c =
     let at = goal.at.returns-clause-read g c in
-    records-read _ _ _ _ _ _ _ (gives g at.In_ok-rows (rows-are g at.After-as_slice-asked)) c.read_records.result (read g at.After-read_records)
+    records-read c.args.reader.now c.args.ranked.now c.args.bins _ _ _ _ (gives g at.In_ok-rows (rows-are g at.After-as_slice-asked)) c.read_records.result (read g at.After-read_records)
 
 pub returns-clause-rest : goal.returns-clause-rest
 returns-clause-rest g c =
@@ -93,10 +93,10 @@ returns-clause-rest g c =
 pub returns-clause-refused : goal.returns-clause-refused
 returns-clause-refused g c =
     let at = goal.at.returns-clause-refused g c in
-    records-fail _ _ _ _ _ _ _ (gives g at.In_ok-rows (rows-are g at.After-as_slice-asked)) c.read_records.result (read g at.After-read_records)
+    records-fail c.args.reader.now c.args.ranked.now c.args.bins _ _ _ _ (gives g at.In_ok-rows (rows-are g at.After-as_slice-asked)) c.read_records.result (read g at.After-read_records)
 
 pub returns-clause-cause : goal.returns-clause-cause
 returns-clause-cause g c =
     let at = goal.at.returns-clause-cause g c in
-    link-fails _ _ _ _ _ _ _ (gives g at.In_ok-rows (rows-are g at.After-as_slice-asked)) _ _ _ (record { target = Meta; limit = reply_limit c.args.reader.now.shape Meta }) c.read_records.result c.gather.ensures.cause.later
+    link-fails c.args.reader.now c.args.ranked.now c.args.bins _ _ _ _ (gives g at.In_ok-rows (rows-are g at.After-as_slice-asked)) _ _ _ (record { target = Meta; limit = reply_limit c.args.reader.now.shape Meta }) c.read_records.result c.gather.ensures.cause.later
     (read g at.After-read_records)

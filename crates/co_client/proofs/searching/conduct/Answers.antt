@@ -22,15 +22,15 @@ use Rattle.co_client.proofs.searching.conduct.Goals as goal
 
 -- ---- what has come so far of a search that ends with this link
 
-abbrev search-to : (g : Over) → List ℕ → ℕ → g.row.K → g.row.R → g.row.K → Search
+abbrev search-to : (g : Over) → List ℕ → ℕ → g.row.K.Denot → g.row.R.Denot → g.row.K.Denot → Search
 search-to g query pick link rng end = search_by (terms query) pick (g.R.Rng.stream rng) (g.K.Link.faults link) (g.K.Link.faults end) (g.K.Link.last_failed end)
 
-has-begun : (g : Over) (c : In_ok-published g) (end : g.row.K)
+has-begun : (g : Over) (c : In_ok-published g) (end : g.row.K.Denot)
     → Begun (search-to g c.args.query.now c.args.pick c.args.link.now c.args.rng.now end) (g.K.Link.exchanges c.args.link.now) (g.K.Link.exchanges c.consult.new.link)
     c.in_ok-published.published.tested (numbers_of c.in_ok-published.published.terms c.in_ok-keywords.keywords) (unknown_in c.in_ok-published.published.terms c.in_ok-keywords.keywords)
 has-begun g c end = begins _ _ _ c.in_ok-keywords.keywords c.in_ok-published.published c.in_ok-keywords.ensures.found c.in_ok-keywords.ensures.few c.in_ok-published.ensures.found
 
-has-ranked : (g : Over) (c : In_ok-ranked g) (end : g.row.K)
+has-ranked : (g : Over) (c : In_ok-ranked g) (end : g.row.K.Denot)
     → Begun (search-to g c.args.query.now c.args.pick c.args.link.now c.args.rng.now end) (g.K.Link.exchanges c.args.link.now) (g.K.Link.exchanges c.consult.new.link)
     c.in_ok-published.published.tested (numbers_of c.in_ok-published.published.terms c.in_ok-keywords.keywords) (unknown_in c.in_ok-published.published.terms c.in_ok-keywords.keywords)
     → HasRanked (search-to g c.args.query.now c.args.pick c.args.link.now c.args.rng.now end) (g.K.Link.exchanges c.args.link.now) (g.K.Link.exchanges c.rank.new.link)
@@ -46,7 +46,7 @@ bins-are g c = c.bins-bins.ensures ∙ ap (λ (x : Numbers). x.bins) (c.shape.en
 within : (g : Over) (c : In_ok-listed g) → c.bins-bins.result ≡ c.in_ok-reader.reader.shape.bins → All (λ r. is_within_bins c.in_ok-reader.reader.shape r.place ≡ true) c.in_ok-listed.listed
 within g c bins = subst (λ (k : ℕ). All (λ r. is_within_bins (with_bins c.in_ok-reader.reader.shape k) r.place ≡ true) c.in_ok-listed.listed) bins c.in_ok-listed.ensures.within
 
-has-records : (g : Over) (c : In_ok-listed g) (end : g.row.K)
+has-records : (g : Over) (c : In_ok-listed g) (end : g.row.K.Denot)
     → HasRanked (search-to g c.args.query.now c.args.pick c.args.link.now c.args.rng.now end) (g.K.Link.exchanges c.args.link.now) (g.K.Link.exchanges c.rank.new.link)
     c.in_ok-reader.reader c.in_ok-ranked.ranked (g.R.Rng.stream c.rank.new.rng)
     → c.bins-bins.result ≡ c.in_ok-reader.reader.shape.bins
