@@ -96,7 +96,8 @@ impl Cipher {
     /// Subtracts a ciphertext: the messages are subtracted, and the bounds of the noise add up.
     pub fn sub_in(&mut self, other: &Cipher)
         requires { ciphertext_degree other.now ≡ ciphertext_degree self.old }
-        ensures { IsCombined minus (ciphertext_difference self.old other.now) self.old other.now self.new }
+        ensures { IsCombined minus (ciphertext_difference self.old other.now) self.old other.now
+            self.new }
     {
         self.c0.sub_in(&other.c0);
         self.c1.sub_in(&other.c1);

@@ -12,7 +12,7 @@ use crate::ciphers::Cipher;
 use crate::draws::{sample_error, sample_uniform};
 use crate::secrets::Secret;
 use co_math::parameters::{CIPHER_MODULUS, PLAIN_MODULUS};
-use co_ring::{Degree, Modulus, Poly};
+use co_ring::{Modulus, Poly};
 use co_rns::Pair;
 use rand_core::Rng;
 use std::alloc::{AllocError, Global};

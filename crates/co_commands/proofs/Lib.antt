@@ -4,6 +4,7 @@ pub mod FewTerms
 pub mod Generated
 pub mod Importing
 pub mod Keywords
+pub mod Known
 pub mod Outcomes
 pub mod Rehearsing
 pub mod Remotes

@@ -49,7 +49,7 @@ use Rattle.co_rounds.specs.Honest.{IsHonest, AreHeld}
 use Rattle.co_rounds.specs.Placing.{document_row, document_start}
 use Rattle.co_rounds.specs.Scoring.{AskScores, scores_read}
 use Rattle.co_rounds.specs.Retrieving.{OverRecordRound, OverDocumentRound}
-use Rattle.co_rounds.specs.Recording.{ShowsDocument, CanBeOpened, AsksFor, bytes_of, bucket_replies}
+use Rattle.co_rounds.specs.Recording.{ShowsDocument, AsksFor, bytes_of, bucket_replies}
 use Rattle.co_rounds.specs.declared.answer.Answer.{Answer}
 use Rattle.co_rounds.specs.declared.answer.Answer.TheVariants.{Done, Length, NoKeys, Range, OutOfMemory}
 use Rattle.co_rounds.proofs.Scored.{scores_plain}

@@ -2,7 +2,6 @@
 
 ghost use Rattle.std.specs.Prelude.{◌≡◌, ◌*◌, ◌<◌, length, IfOk, IfErr, OnOk};
 ghost use Rattle.co_math.specs.Coefficients.{AreBelow};
-ghost use Rattle.co_ring.specs.Polynomials.{degree_of};
 ghost use Rattle.co_slots.specs.Payloads.{IsPayload};
 
 use co_link::Bytes;

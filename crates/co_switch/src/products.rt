@@ -119,15 +119,12 @@ fn digit_values(room: &mut DigitRoom, tables: &Tables, index: u32)
     requires middle_degree { spectrum_degree room.old.middle ≡ tables.now }
     requires high_degree { spectrum_degree room.old.high ≡ tables.now }
     ensures same { room.new.digits ≡ room.old.digits }
-    ensures low {
-        IsSpectrumOf tables.now (coefficients (digit_polynomial index room.old.digits))
-            room.new.low }
-    ensures middle {
-        IsSpectrumOf tables.now (coefficients (digit_polynomial (index + 1) room.old.digits))
-            room.new.middle }
-    ensures high {
-        IsSpectrumOf tables.now (coefficients (digit_polynomial (index + 2) room.old.digits))
-            room.new.high }
+    ensures low { IsSpectrumOf tables.now
+        (coefficients (digit_polynomial index room.old.digits)) room.new.low }
+    ensures middle { IsSpectrumOf tables.now
+        (coefficients (digit_polynomial (index + 1) room.old.digits)) room.new.middle }
+    ensures high { IsSpectrumOf tables.now
+        (coefficients (digit_polynomial (index + 2) room.old.digits)) room.new.high }
 {
     room.digits.to_spectrum(tables, index, &mut room.low);
     room.digits.to_spectrum(tables, index + 1, &mut room.middle);
@@ -147,5 +144,12 @@ fn add_three(sum: &mut PairSum, room: &DigitRoom, keys: &[PairSpectrum], at: usi
         ∷ (room.now.middle, slice_index_or keys.now (at + 1) d)
         ∷ (room.now.high, slice_index_or keys.now (at + 2) d) ∷ []) sum.new }
 {
-    sum.add_three(&room.low, &keys[at], &room.middle, &keys[at + 1], &room.high, &keys[at + 2]);
+    sum.add_three(
+        &room.low,
+        &keys[at],
+        &room.middle,
+        &keys[at + 1],
+        &room.high,
+        &keys[at + 2],
+    );
 }

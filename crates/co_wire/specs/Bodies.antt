@@ -39,7 +39,8 @@ pairs_bytes (x ∷ xs) (y ∷ ys) = polynomial_bytes x ++ (polynomial_bytes y ++
 abbrev pub key_bytes : Key → List ℕ
 key_bytes key = pairs_bytes key.k0 key.k1
 
--- a key set: the rotation keys in order, then the expansion keys; the elements are known and aren't spelled
+-- a key set: the rotation keys in order, then the expansion keys; the elements are known and aren't
+-- spelled
 abbrev pub keys_bytes : Keys → List ℕ
 keys_bytes keys = flat_map key_bytes keys.rotations ++ flat_map key_bytes keys.expansions
 

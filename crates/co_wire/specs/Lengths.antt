@@ -28,7 +28,8 @@ request_size s Score = keyword_blocks s * cipher_size s.degree
 request_size s Meta = bucket_count s.hits * cipher_size s.degree
 request_size s Document = cipher_size s.degree
 
--- the bytes of a reply's body, where it is as asked; those of public bytes depend on the terms, and are not told here
+-- the bytes of a reply's body, where it is as asked; those of public bytes depend on the terms, and
+-- are not told here
 abbrev pub reply_size : Numbers → Target → ℕ
 reply_size s Public = 0
 reply_size s Keys = 0
@@ -40,7 +41,8 @@ reply_size s Document = s.chunks * cipher_size s.degree
 abbrev pub most_public : ℕ
 most_public = 8519720
 
--- the most bytes of a reply's body that a client takes: as it is to be, and room for the text of a refusal
+-- the most bytes of a reply's body that a client takes: as it is to be, and room for the text of a
+-- refusal
 abbrev pub reply_limit : Numbers → Target → ℕ
 reply_limit s Public = most_public
 reply_limit s Keys = 256

@@ -20,7 +20,8 @@ IsRangeFault body (Range place) = IsFirstOutOfRange body place
 IsRangeFault body OutOfMemory = Unit {0}
 IsRangeFault body fault = ⊥
 
--- a reader of the residues from the i-th up to the j-th gives what they spell, and has found those before the j-th in
+-- a reader of the residues from the i-th up to the j-th gives what they spell, and has found those
+-- before the j-th in
 -- range; or its fault is the first residue out of range
 abbrev pub ReadsTo : {X : Type 0} → (X → List ℕ) → ℕ → ℕ → List ℕ → Result X WireFault → Type 0
 ReadsTo text i j body (Ok x) = SpellsBetween i j (text x) body × AreInRangeTo body j
@@ -34,7 +35,8 @@ pub record AreEach (n : ℕ) (element : ℕ → ℕ) (count : ℕ) (keys : List 
   pub elements : map (λ key. key.element) keys ≡ map element (range_with_len 0 count)
 
 -- the first i keys are read, up to the residue `at`
-pub record AreReadKeys (n : ℕ) (element : ℕ → ℕ) (start i at : ℕ) (keys : List Key) (body : List ℕ) : Type 0 where
+pub record AreReadKeys (n : ℕ) (element : ℕ → ℕ) (start i at : ℕ) (keys : List Key) (body : List ℕ)
+    : Type 0 where
   pub at_is : at ≡ start + i * (24 * n)
   pub keys_are : AreEach n element i keys
   pub spelled : SpellsBetween start at (flat_map key_bytes keys) body

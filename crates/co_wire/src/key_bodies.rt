@@ -126,7 +126,8 @@ fn read_rotations(
 ) -> Result<Vec<GaloisKey>, WireFault>
     requires whole { count * (168 * degree) ≤ length body.now }
     requires known { IsDegree degree }
-    ensures read { IfOk result (λ keys. AreReadKeys degree (rotation_element degree) 0 count (count * (24 * degree)) keys.items body.now) }
+    ensures read { IfOk result (λ keys. AreReadKeys degree (rotation_element degree) 0 count
+        (count * (24 * degree)) keys.items body.now) }
     ensures fault { IfErr result (IsRangeFault body.now) }
 {
     let n = degree.get();
@@ -159,7 +160,8 @@ fn read_expansions(
     requires before { AreInRangeTo body.now from }
     requires known { IsDegree degree }
     requires few { count ≤ log2_up (degree / 2) + 1 }
-    ensures read { IfOk result (λ keys. AreReadKeys degree (expansion_element degree) from count (from + count * (24 * degree)) keys.items body.now) }
+    ensures read { IfOk result (λ keys. AreReadKeys degree (expansion_element degree) from count
+        (from + count * (24 * degree)) keys.items body.now) }
     ensures fault { IfErr result (IsRangeFault body.now) }
 {
     let n = degree.get();

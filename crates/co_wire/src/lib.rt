@@ -1,13 +1,12 @@
 //! Messages and published files as bytes.
 //!
-//! Model: reading goes from left to right; it is a function from what is left of the bytes to a value
-//! and what is left behind it, or to the place of the first field that is wrong or not whole. Writing
-//! is a function from a value to its one spelling. Each reader of the crate gives what its definition
-//! finds, and the two functions undo each other: what was written reads back equal, and what is read
-//! is spelled so.
-//! The fields of public bytes stand in library files too; co_library reads them by `Cursor` and the
-//! calls on it.
-//! Not here: what a weight, a record or a bin holds (co_library, co_pack), and how messages travel.
+//! Model: reading goes from left to right; it is a function from what is left of the bytes to a
+//! value and what is left behind it, or to the place of the first field that is wrong or not whole.
+//! Writing is a function from a value to its one spelling. Each reader of the crate gives what its
+//! definition finds, and the two functions undo each other: what was written reads back equal, and
+//! what is read is spelled so. The fields of public bytes stand in library files too; co_library
+//! reads them by `Cursor` and the calls on it. Not here: what a weight, a record or a bin holds
+//! (co_library, co_pack), and how messages travel.
 #![tactic(auto)]
 
 mod bodies;

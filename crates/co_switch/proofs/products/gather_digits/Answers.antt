@@ -34,9 +34,9 @@ loop-pass-preserved c =
     let middle = c.digit_values.new.room.middle in
     let high = c.digit_values.new.room.high in
     let spectrum = λ (j : ℕ) (v : PairValues) (s : IsSpectrumOf n
-        (coefficients (digit_polynomial j c.loop-pass.room.digits)) v).
-        subst (λ (xs : List ℕ). IsSpectrumOf n (coefficients (digit_polynomial j xs)) v)
-        h.digits_are s in
+    (coefficients (digit_polynomial j c.loop-pass.room.digits)) v).
+    subst (λ (xs : List ℕ). IsSpectrumOf n (coefficients (digit_polynomial j xs)) v)
+    h.digits_are s in
     let u = spectrum i low given.low in
     let v = spectrum (i + 1) middle given.middle in
     let w = spectrum (i + 2) high given.high in
