@@ -1,6 +1,6 @@
 //! A session as what answers the requests of a connection.
 
-ghost use Rattle.std.specs.Prelude.{◌≡◌};
+ghost use Rattle.std.specs.Prelude.{◌≡◌, ◌≤◌};
 ghost use Rattle.co_connections.specs.Serving.{fresh};
 
 use co_link::{Bytes, Reply, Request, Target};
