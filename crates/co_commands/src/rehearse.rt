@@ -124,7 +124,7 @@ fn plain_answer(
     requires index { IsIndex TERMS corpus.now index.now }
     requires few { length (distinct (terms (joined (shown query)))) ≤ MAX_KEYWORDS }
     ensures { IfOk result (λ text.
-        text ≡ printed (found TERMS corpus.now HITS (terms (joined (shown query))) pick)) }
+        text ≡ printed (found TERMS corpus.now HITS (terms (joined (shown query.entry))) pick)) }
 {
     let text = join(alloc, query)?;
     let query = all_terms(alloc, text.as_str())?;
