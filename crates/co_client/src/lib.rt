@@ -22,8 +22,6 @@ mod recording;
 mod scoring;
 mod searching;
 mod starting;
-#[cfg(test)]
-mod tests;
 
 pub use fault::SearchFault;
 pub use placing::Witness;
