@@ -23,7 +23,7 @@ pub enum SearchFault {
         place: u64,
     },
     /// The published numbers leave no room for the noise.
-    #[error("test: {0}")]
+    #[error("unfit parameters: {0}")]
     Test(TestFault),
     /// The hits can't be placed each in a bucket of its own. It comes after the last round.
     #[error("no placement")]
