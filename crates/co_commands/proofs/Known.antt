@@ -22,5 +22,12 @@ unknown (x ∷ xs) command word some first bytes p i s l v r h =
     let same : word ≡ string_bytes x = bytes ∙ ap string_bytes first in
     let known : (name : List ℕ) → word ≢ name → bytes_eq (string_bytes x) name ≡ false =
     λ name other. unequal (string_bytes x) name (λ is. other (same ∙ is)) in
-    rw (known (codes "plain") p, known (codes "import") i, known (codes "shape") s, known (codes "local") l, known (codes "serve") v, known (codes "search") r,
-    known (codes "rehearse") h) refl
+    rw (
+      known (codes "plain") p,
+      known (codes "import") i,
+      known (codes "shape") s,
+      known (codes "local") l,
+      known (codes "serve") v,
+      known (codes "search") r,
+      known (codes "rehearse") h,
+    ) refl

@@ -1,4 +1,5 @@
-use Rattle.std.proofs.Common.{refl}
+use Rattle.std.proofs.Common.{Err, refl}
+use Rattle.co_commands.specs.declared.refusals.Refusal.TheVariants as refusals
 use Rattle.co_commands.proofs.Ending.{ran}
 use Rattle.co_commands.proofs.program.run.Goals as goal
 
@@ -25,4 +26,4 @@ returns-in-Rehearse g c = ran _ _ _ _ _ _ _ _ _ c.in-Rehearse.is c.read_command-
 
 pub returns-in-Wrong : goal.returns-in-Wrong
 returns-in-Wrong g c =
-    ran _ _ _ _ _ _ _ _ _ c.in-Wrong.is c.read_command-command.ensures.value (record { cause = refl; out = refl; files = refl; uses = refl }) c.finish-in-Wrong.ensures
+    ran _ _ _ _ _ _ _ (Err refusals.Words) _ c.in-Wrong.is c.read_command-command.ensures.value (record { cause = refl; out = refl; files = refl; uses = refl }) c.finish-in-Wrong.ensures
