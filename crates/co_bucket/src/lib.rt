@@ -15,8 +15,6 @@ pub mod laws;
 mod listing;
 mod placing;
 mod rows;
-#[cfg(test)]
-mod tests;
 
 pub use listing::{Lists, bucket_lists, buckets, candidates};
 pub use placing::{Numbers, PlaceFault, Placement, place};

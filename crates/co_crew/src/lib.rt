@@ -9,8 +9,6 @@
 mod crew;
 mod laws;
 mod sums;
-#[cfg(test)]
-mod tests;
 mod work;
 
 pub use crew::fan_out;

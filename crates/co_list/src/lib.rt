@@ -6,6 +6,3 @@
 mod listed;
 
 pub use listed::Listed;
-
-#[cfg(test)]
-mod tests;

@@ -14,8 +14,6 @@ pub mod laws;
 pub mod limits;
 mod shape;
 mod testing;
-#[cfg(test)]
-mod tests;
 
 pub use bounds::{fresh_bound, modulus, retrieve_bound, score_bound, switch_bound};
 pub use co_math::{is_degree, log2_up};

@@ -12,10 +12,10 @@ use Rattle.co_math.specs.Values.{value_at}
 use Rattle.co_math.proofs.Residues.{cong_from, cong-trans, cong-sym, cong-add, cong-mul, cong-refl, residue-same}
 use Rattle.co_math.proofs.Reduced.{remainder-is, residue_of}
 use Rattle.co_math.proofs.Evaluations.{value-product}
-use Rattle.co_math.specs.Exponents.{place}
+use Rattle.co_math.specs.Exponents.{bit_reversal}
 use Rattle.co_transform.specs.Trees.{AreWithin, HaveResidues}
 use Rattle.co_transform.specs.Gathered.{Gathered, GatheredAll, products_at}
-use Rattle.co_transform.proofs.Reversals.{place-lt}
+use Rattle.co_transform.proofs.Reversals.{bit_reversal-lt}
 use Rattle.co_ring.specs.declared.moduli.Modulus.{Modulus}
 use Rattle.co_ring.specs.Moduli.{value_of}
 use Rattle.co_ring.specs.Spectra.{in_order, AreLeaves, AreValues}
@@ -28,7 +28,7 @@ reduced_in_order l m v sums ys e len h = record {
   len = in_order-length l ys ∙ sym (in_order-length l sums);
   each = λ k u.
       let w : k < 2 ^ l = omega (arith, u, in_order-length l sums) in
-      in_order-get l k ys w ∙ h.each (place l k) (omega (arith, place-lt l k, len)) ∙ (λ i. sym (in_order-get l k sums w) i % e i);
+      in_order-get l k ys w ∙ h.each (bit_reversal l k) (omega (arith, bit_reversal-lt l k, len)) ∙ (λ i. sym (in_order-get l k sums w) i % e i);
 }
 
 pub reduced_leaves : (modulus : Modulus) (l m : ℕ) (sums xs ys : List ℕ) → AreLeaves modulus l xs → m ≡ value_of modulus → length sums ≡ 2 ^ l → HaveResidues m sums ys → AreLeaves modulus l ys
@@ -80,7 +80,7 @@ abbrev pub all_ordered : ℕ → List (List ℕ × List ℕ) → List (List ℕ 
 all_ordered l [] = []
 all_ordered l (p ∷ ps) = (in_order l p.0, in_order l p.1) ∷ all_ordered l ps
 
-ordered_at : (l k : ℕ) (pairs : List (List ℕ × List ℕ)) → k < 2 ^ l → products_at (all_ordered l pairs) k ≡ products_at pairs (place l k)
+ordered_at : (l k : ℕ) (pairs : List (List ℕ × List ℕ)) → k < 2 ^ l → products_at (all_ordered l pairs) k ≡ products_at pairs (bit_reversal l k)
 ordered_at l k [] u = refl
 ordered_at l k (p ∷ ps) u = (λ i. in_order-get l k p.0 u i * in_order-get l k p.1 u i + ordered_at l k ps u i)
 
@@ -94,7 +94,7 @@ gathered_all_in_order l xs old ys sums pairs views own size same views_are g =
       len = in_order-length l ys ∙ sym whole;
       each = λ k u.
           let w : k < 2 ^ l = omega (arith, u, whole) in
-          in_order-get l k ys w ∙ g.done (place l k) (omega (arith, place-lt l k, n))
+          in_order-get l k ys w ∙ g.done (bit_reversal l k) (omega (arith, bit_reversal-lt l k, n))
           ∙ (λ i. sym (in_order-get l k old w) i + sym (ordered_at l k pairs w) i)
           ∙ (λ i. get_or (in_order l (same i)) k 0 + products_at (views_are i) k)
           ∙ ap (λ (zs : List ℕ). get_or zs k 0 + products_at views k) own;

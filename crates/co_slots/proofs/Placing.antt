@@ -9,13 +9,13 @@ use lib.IntN.{neg_ℤ}
 use Rattle.co_math.specs.Residues.{residue, Congruent}
 use Rattle.co_math.specs.Powers.{power, root}
 use Rattle.co_math.specs.Values.{value_at}
-use Rattle.co_math.specs.Exponents.{place}
+use Rattle.co_math.specs.Exponents.{bit_reversal}
 use Rattle.co_math.specs.Coefficients.{coefficients, IsDegree}
 use Rattle.co_math.specs.Parameters.{plain_modulus}
 use Rattle.co_math.proofs.Residues.{cong-neg, residue-same}
 use Rattle.co_math.proofs.Reduced.{residue_of}
 use Rattle.co_math.proofs.Degrees.{degree_positive}
-use Rattle.co_transform.proofs.Reversals.{place-place}
+use Rattle.co_transform.proofs.Reversals.{bit_reversal-twice}
 use Rattle.co_ring.specs.declared.moduli.Modulus.{Modulus}
 use Rattle.co_ring.specs.declared.moduli.Modulus.TheVariants.{Plain}
 use Rattle.co_ring.specs.Moduli.{value_of}
@@ -60,8 +60,8 @@ halves_differ n j p d a b ne e =
     exponents_differ n j p d a b ne (sym (half-odd n j z) ∙ ap (λ k. 2 * k + 1) e ∙ half-odd n p z)
 
 -- a place among the leaves, and the number of the value there
-pub at_place : (n p at : ℕ) (d : IsDegree n) → at ≡ place d.exponent (exponent_of n p / 2) → place d.exponent at ≡ exponent_of n p / 2
-at_place n p at d e = ap (place d.exponent) e ∙ place-place d.exponent (exponent_of n p / 2) (omega (arith, half-lt n p (degree_positive n d), d.is))
+pub at_place : (n p at : ℕ) (d : IsDegree n) → at ≡ bit_reversal d.exponent (exponent_of n p / 2) → bit_reversal d.exponent at ≡ exponent_of n p / 2
+at_place n p at d e = ap (bit_reversal d.exponent) e ∙ bit_reversal-twice d.exponent (exponent_of n p / 2) (omega (arith, half-lt n p (degree_positive n d), d.is))
 
 -- the value at half of an exponent is the slot
 pub slot_value_at : (n p : ℕ) (xs values : List ℕ) → 0 < n → length xs ≡ n → AreValues plain_modulus n (coefficients xs) values → get_or values (exponent_of n p / 2) 0 ≡ slot xs p
@@ -82,7 +82,7 @@ slots_of_values n xs slots values z len count v s = record {
   each = λ p u. sym (s.each p (omega (arith, u, len))) ∙ slot_value_at n p xs values z len v;
 }
 
-pub one_scattered : (n i at : ℕ) (slots old new : List ℕ) (d : IsDegree n) → i < n → at ≡ place d.exponent (exponent_of n i / 2) → new ≡ set old (place d.exponent at) (get_or slots i 0) → AreScattered n i slots old
+pub one_scattered : (n i at : ℕ) (slots old new : List ℕ) (d : IsDegree n) → i < n → at ≡ bit_reversal d.exponent (exponent_of n i / 2) → new ≡ set old (bit_reversal d.exponent at) (get_or slots i 0) → AreScattered n i slots old
     → AreScattered n (i + 1) slots new
 one_scattered n i at slots old new d b e w s =
     let h = exponent_of n i / 2 in
@@ -109,11 +109,11 @@ one_gathered n i x old new values b len e w s = record {
       (cases_eq p i);
 }
 
-pub more_places : (n i x : ℕ) (xs : List ℕ) → ArePlaces n i xs → ((l : ℕ) → n ≡ 2 ^ l → x ≡ place l (exponent_of n i / 2)) → ArePlaces n (i + 1) (xs ++ x ∷ [])
+pub more_places : (n i x : ℕ) (xs : List ℕ) → ArePlaces n i xs → ((l : ℕ) → n ≡ 2 ^ l → x ≡ bit_reversal l (exponent_of n i / 2)) → ArePlaces n (i + 1) (xs ++ x ∷ [])
 more_places n i x xs h e = record {
   len = grind (arith, elements);
   each = λ l p size u. ⊎_elim
-      (λ f. last xs x p (f ∙ sym h.len) ∙ e l size ∙ ap (λ j. place l (exponent_of n j / 2)) (sym f))
+      (λ f. last xs x p (f ∙ sym h.len) ∙ e l size ∙ ap (λ j. bit_reversal l (exponent_of n j / 2)) (sym f))
       (λ ne. front xs x p (omega (arith, u, ne, h.len)) ∙ h.each l p size (omega (arith, u, ne)))
       (cases_eq p i);
 }

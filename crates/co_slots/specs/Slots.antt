@@ -4,7 +4,7 @@ use Rattle.co_math.specs.Residues.{residue}
 use Rattle.co_math.specs.Powers.{power, root}
 use Rattle.co_math.specs.Values.{value_at}
 use Rattle.co_math.specs.Coefficients.{coefficients}
-use Rattle.co_math.specs.Exponents.{place}
+use Rattle.co_math.specs.Exponents.{bit_reversal}
 use Rattle.co_math.specs.Parameters.{plain_modulus}
 use Rattle.co_ring.specs.declared.moduli.Modulus.TheVariants.{Plain}
 use Rattle.co_ring.specs.Tables.{Shape}
@@ -33,7 +33,7 @@ pub record AreSlots (coeffs slots : List ℕ) : Type 0 where
 -- the opposite order
 pub record ArePlaces (n count : ℕ) (xs : List ℕ) : Type 0 where
   pub len : length xs ≡ count
-  pub each : (l p : ℕ) → n ≡ 2 ^ l → p < count → slice_index xs p ≡ place l (exponent_of n p / 2)
+  pub each : (l p : ℕ) → n ≡ 2 ^ l → p < count → slice_index xs p ≡ bit_reversal l (exponent_of n p / 2)
 
 -- a table modulo t, and the places of all its slots
 pub record IsSlotTable (table : Shape) (places : List ℕ) : Type 0 where

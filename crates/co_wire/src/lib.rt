@@ -27,6 +27,3 @@ pub use key_bodies::{read_keys, write_keys};
 pub use lengths::{record_chunks, reply_length, request_length};
 pub use reading::{read_fields, read_public, read_shape_fields};
 pub use writing::{put_shape_fields, put_u32, write_public};
-
-#[cfg(test)]
-mod tests;

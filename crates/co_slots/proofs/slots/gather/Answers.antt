@@ -1,6 +1,6 @@
 use Rattle.std.proofs.Common.{◌/◌, length, get_or, set, refl, ap, ◌∙◌, arith}
 use Rattle.std.proofs.lemmas.List.{length-set}
-use Rattle.co_transform.proofs.Reversals.{place-lt}
+use Rattle.co_transform.proofs.Reversals.{bit_reversal-lt}
 use Rattle.co_slots.specs.Slots.{exponent_of}
 use Rattle.co_slots.proofs.Placing.{one_gathered, at_place}
 use Rattle.co_slots.proofs.slots.gather.Goals as goal
@@ -8,7 +8,7 @@ use Rattle.co_slots.proofs.slots.gather.Goals as goal
 pub leaf-requires : goal.leaf-requires
 leaf-requires c =
     let d = c.requires.degree in
-    let b = place-lt d.exponent (exponent_of (length c.args.into.now) c.loop-p.p / 2) in
+    let b = bit_reversal-lt d.exponent (exponent_of (length c.args.into.now) c.loop-p.p / 2) in
     omega (arith, c.requires.places.each d.exponent c.loop-p.p d.is (omega arith), b, d.is, c.requires.one_degree)
 
 pub loop-p-preserved : goal.loop-p-preserved

@@ -1,5 +1,5 @@
 use Rattle.std.proofs.Common.{◌<◌, ◌/◌, length, get_or, sym, ap, subst, ◌∙◌, arith}
-use Rattle.co_transform.proofs.Reversals.{place-lt}
+use Rattle.co_transform.proofs.Reversals.{bit_reversal-lt}
 use Rattle.co_ring.specs.Moduli.{value_of}
 use Rattle.co_ring.specs.Spectra.{Values}
 use Rattle.co_slots.specs.Slots.{exponent_of}
@@ -9,7 +9,7 @@ use Rattle.co_slots.proofs.slots.scatter.Goals as goal
 pub set_leaf-requires-clause-in_range : goal.set_leaf-requires-clause-in_range
 set_leaf-requires-clause-in_range c =
     let d = c.requires.degree in
-    let b = place-lt d.exponent (exponent_of (length c.args.values.now) c.loop-p.p / 2) in
+    let b = bit_reversal-lt d.exponent (exponent_of (length c.args.values.now) c.loop-p.p / 2) in
     omega (arith, c.requires.places.each d.exponent c.loop-p.p d.is (omega arith), b, d.is, c.loop-p.invariant.scattered.len)
 
 pub set_leaf-requires-clause-reduced : goal.set_leaf-requires-clause-reduced

@@ -1,6 +1,6 @@
 use Rattle.std.proofs.Common.{◌≡◌, ◌<◌, ◌^◌, set, sym, ap, subst, ◌∙◌, arith}
-use Rattle.co_math.specs.Exponents.{place}
-use Rattle.co_transform.proofs.Reversals.{place-lt, place-place}
+use Rattle.co_math.specs.Exponents.{bit_reversal}
+use Rattle.co_transform.proofs.Reversals.{bit_reversal-lt, bit_reversal-twice}
 use Rattle.co_ring.specs.Moduli.{value_of}
 use Rattle.co_ring.specs.Spectra.{Values, in_order}
 use Rattle.co_ring.proofs.Orderings.{in_order-set, set_leaves, view_length, own_levels}
@@ -23,8 +23,8 @@ returns c = λ l size.
     let own = ap (λ (v : Values). v.values) c.self.view_is in
     let levels = own_levels s.levels l s.leaves.items c.args.self.now.values own size in
     let within : c.args.at < 2 ^ s.levels = omega (arith, c.requires.in_range, view_length s.levels s.leaves.items c.args.self.now.values own) in
-    let moved : in_order s.levels (set s.leaves.items c.args.at c.args.value) ≡ set c.args.self.now.values (place l c.args.at) c.args.value =
-    ap (λ p. in_order s.levels (set s.leaves.items p c.args.value)) (sym (place-place s.levels c.args.at within))
-    ∙ in_order-set s.levels (place s.levels c.args.at) c.args.value s.leaves.items c.self.invariant.len (place-lt s.levels c.args.at)
-    ∙ (λ i. set (own i) (place (levels i) c.args.at) c.args.value) in
+    let moved : in_order s.levels (set s.leaves.items c.args.at c.args.value) ≡ set c.args.self.now.values (bit_reversal l c.args.at) c.args.value =
+    ap (λ p. in_order s.levels (set s.leaves.items p c.args.value)) (sym (bit_reversal-twice s.levels c.args.at within))
+    ∙ in_order-set s.levels (bit_reversal s.levels c.args.at) c.args.value s.leaves.items c.self.invariant.len (bit_reversal-lt s.levels c.args.at)
+    ∙ (λ i. set (own i) (bit_reversal (levels i) c.args.at) c.args.value) in
     λ i. record { modulus = (ap (λ (v : Values). v.modulus) c.self.view_is) i; values = moved i }

@@ -1,5 +1,5 @@
 use Rattle.std.proofs.Common.{ℕ, List, length, get_or, refl, sym, ap, subst, ◌∙◌, arith}
-use Rattle.co_math.specs.Exponents.{place}
+use Rattle.co_math.specs.Exponents.{bit_reversal}
 use Rattle.co_ring.specs.Spectra.{in_order}
 use Rattle.co_ring.specs.Product_sums.{Sums, AreSumLeaves}
 use Rattle.co_ring.proofs.Keeping.{written_back}
@@ -33,6 +33,6 @@ returns c =
       zeros = record {
         len = in_order-length l _ ∙ sym own_n;
         each = λ k u.
-            ap (λ (zs : List ℕ). get_or (in_order l zs) k 0) back ∙ in_order-get l k ys (omega (arith, u, own_n)) ∙ omega (arith, c.clear.ensures.zeros (place l k));
+            ap (λ (zs : List ℕ). get_or (in_order l zs) k 0) back ∙ in_order-get l k ys (omega (arith, u, own_n)) ∙ omega (arith, c.clear.ensures.zeros (bit_reversal l k));
       };
     }

@@ -1,6 +1,6 @@
 use Rattle.std.proofs.Common.{length, refl, sym, ap, ◌∙◌, arith}
 use Rattle.std.proofs.lemmas.List.{length-replicate}
-use Rattle.co_math.specs.Exponents.{place}
+use Rattle.co_math.specs.Exponents.{bit_reversal}
 use Rattle.co_ring.proofs.Orderings.{in_order-length, in_order-get}
 use Rattle.co_ring.proofs.Summing.{none_is}
 use Rattle.co_ring.proofs.sums.ProductSum.zero.Goals as goal
@@ -29,6 +29,6 @@ returns c =
       none = refl;
       zeros = record {
         len = in_order-length l xs ∙ c.exponent.ensures.value;
-        each = λ k u. in_order-get l k xs (omega (arith, u, c.exponent.ensures.value)) ∙ none_is n xs is (place l k);
+        each = λ k u. in_order-get l k xs (omega (arith, u, c.exponent.ensures.value)) ∙ none_is n xs is (bit_reversal l k);
       };
     }
