@@ -18,7 +18,7 @@ mod rows;
 
 pub use listing::{Lists, bucket_lists, buckets, candidates};
 pub use placing::{Numbers, PlaceFault, Placement, place};
-pub use rows::{greatest, record_rows, rows_needed};
+pub use rows::{RECORD_COEFFICIENTS, greatest, record_rows, rows_needed};
 
 /// The most items that are placed, which is the most hits of a search.
 pub const MOST_ITEMS: usize = 64;

@@ -38,7 +38,7 @@ pub fn rows_needed(degree: u32, documents: u32, hits: u32, salt: u32) -> u32
 }
 
 /// The coefficients that hold a record of 256 bytes, two bytes each.
-const RECORD_COEFFICIENTS: u32 = 128;
+pub const RECORD_COEFFICIENTS: u32 = 128;
 
 /// How many rows hold the longest list.
 fn rows_for(longest: u32, degree: u32) -> u32

@@ -17,11 +17,8 @@ use co_link::{Bytes, Target};
 use co_pir::open_reply;
 use co_ring::Degree;
 use co_slots::ByteFault;
-use co_wire::{WireFault, read_ciphers};
+use co_wire::{CIPHER_BYTES, WireFault, read_ciphers};
 use std::alloc::{AllocError, Global};
-
-/// The bytes of a coefficient of a ciphertext's two polynomials: four residues.
-const CIPHER_BYTES: usize = 28;
 
 /// The bytes of the ciphertext at a place.
 fn piece_at(degree: Degree, body: &[u8], at: usize) -> &[u8]

@@ -27,7 +27,7 @@ use crate::querying::{ask_ciphers, put_row};
 use crate::ranking::Ranked;
 use crate::reading::open_part;
 use crate::starting::Reader;
-use co_bucket::buckets;
+use co_bucket::{RECORD_COEFFICIENTS, buckets};
 use co_link::{Bytes, Link, Target};
 use co_list::Listed;
 use co_noise::Shape;
@@ -37,9 +37,6 @@ use co_text::Ranked as RankedDocument;
 use co_wire::{record_chunks, request_length};
 use rand_core::Rng;
 use std::alloc::{AllocError, Global};
-
-/// The coefficients that hold a record, two bytes each.
-const RECORD_COEFFICIENTS: u32 = 128;
 
 /// How many records a row of a bucket holds.
 fn records_a_row(degree: u32) -> u32

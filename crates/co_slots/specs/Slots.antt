@@ -33,7 +33,8 @@ pub record AreSlots (coeffs slots : List ℕ) : Type 0 where
 -- the opposite order
 pub record ArePlaces (n count : ℕ) (xs : List ℕ) : Type 0 where
   pub len : length xs ≡ count
-  pub each : (l p : ℕ) → n ≡ 2 ^ l → p < count → slice_index xs p ≡ bit_reversal l (exponent_of n p / 2)
+  pub each : (l p : ℕ) → n ≡ 2 ^ l → p < count
+      → slice_index xs p ≡ bit_reversal l (exponent_of n p / 2)
 
 -- a table modulo t, and the places of all its slots
 pub record IsSlotTable (table : Shape) (places : List ℕ) : Type 0 where

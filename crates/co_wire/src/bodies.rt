@@ -21,7 +21,7 @@ use std::alloc::{AllocError, Global};
 const RESIDUE_BYTES: usize = 7;
 
 /// The bytes of a coefficient of a ciphertext's two polynomials: four residues.
-pub(crate) const CIPHER_BYTES: usize = 28;
+pub const CIPHER_BYTES: usize = 28;
 
 // ---- writing
 

@@ -5,14 +5,11 @@ ghost use Rattle.co_link.specs.declared.messages.Target.TheVariants.{Public};
 ghost use Rattle.co_bucket.specs.Bytes as layouts;
 ghost use Rattle.co_wire.specs.Lengths.{request_size, reply_size};
 
-use co_bucket::buckets;
+use co_bucket::{RECORD_COEFFICIENTS, buckets};
 use co_link::Target;
 use co_math::log2_up;
 use co_math::parameters::DIGIT_COUNT;
 use co_noise::Tested;
-
-/// The coefficients that hold a record of 256 bytes, two bytes each.
-const RECORD_COEFFICIENTS: u32 = 128;
 
 /// How many payloads of one polynomial a row of records has.
 pub fn record_chunks(degree: u32) -> u32

@@ -19,7 +19,7 @@ mod lengths;
 mod reading;
 mod writing;
 
-pub use bodies::{read_ciphers, write_ciphers};
+pub use bodies::{CIPHER_BYTES, read_ciphers, write_ciphers};
 pub use cursor::Cursor;
 pub use fault::WireFault;
 pub use fields::{MOST_BYTES_IN_BINS, read_end, read_u16_within, read_u32_within, read_word};
