@@ -10,8 +10,10 @@
 #![tactic(auto)]
 
 mod bfv;
+mod board;
 mod bucket;
 mod cases;
+mod client;
 mod gates;
 mod library;
 mod lines;
@@ -38,9 +40,9 @@ use std::fs;
 use std::thread::Threads;
 
 /// The layers, lowest first.
-const LAYERS: [&str; 17] = [
-    "ring", "rns", "slots", "noise", "bfv", "switch", "rot", "matvec", "pir", "bucket", "text",
-    "tfidf", "pack", "library", "wire", "session", "search",
+const LAYERS: [&str; 19] = [
+    "ring", "rns", "slots", "noise", "bfv", "switch", "rot", "matvec", "pir", "board", "bucket", "text",
+    "tfidf", "pack", "library", "wire", "session", "client", "search",
 ];
 
 fn line_of<R: Threads + Sync>(rt: &R, layer: &str, case: Case) -> Result<String, BadCase> {
@@ -53,6 +55,7 @@ fn line_of<R: Threads + Sync>(rt: &R, layer: &str, case: Case) -> Result<String,
         "rot" => rot::line(case),
         "matvec" => matvec::line(rt, case),
         "pir" => pir::line(rt, case),
+        "board" => board::line(case),
         "bucket" => bucket::line(case),
         "text" => text::line(case),
         "tfidf" => tfidf::line(case),
@@ -60,6 +63,7 @@ fn line_of<R: Threads + Sync>(rt: &R, layer: &str, case: Case) -> Result<String,
         "library" => library::line(case),
         "wire" => wire::line(case),
         "session" => session::line(rt, case),
+        "client" => client::line(case),
         "search" => search::line(rt, case),
         _ => Err(BadCase::Unfit),
     }
