@@ -67,11 +67,7 @@ fn link(case: Case) -> Result<ScriptLink, BadCase> {
             body: Bytes::from_vec(body),
         })?;
     }
-    Ok(ScriptLink::new(
-        case.alloc,
-        replies,
-        FailingCalls::none(case.alloc),
-    ))
+    Ok(ScriptLink::new(case.alloc, replies, FailingCalls::none(case.alloc)))
 }
 
 /// The ranking, then the titles of the records.

@@ -41,8 +41,8 @@ use std::thread::Threads;
 
 /// The layers, lowest first.
 const LAYERS: [&str; 19] = [
-    "ring", "rns", "slots", "noise", "bfv", "switch", "rot", "matvec", "pir", "board", "bucket", "text",
-    "tfidf", "pack", "library", "wire", "session", "client", "search",
+    "ring", "rns", "slots", "noise", "bfv", "switch", "rot", "matvec", "pir", "board", "bucket",
+    "text", "tfidf", "pack", "library", "wire", "session", "client", "search",
 ];
 
 fn line_of<R: Threads + Sync>(rt: &R, layer: &str, case: Case) -> Result<String, BadCase> {
