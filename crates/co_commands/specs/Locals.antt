@@ -1,5 +1,5 @@
 -- The command `local`: what it prints, and when it refuses.
-use Rattle.std.specs.Prelude.{◌≡◌, ◌≤◌, ℕ, List, length, Option, None, IsSome, Result, Ok, Err, IfOk, IfErr}
+use Rattle.std.specs.Prelude.{◌≡◌, ◌≤◌, ℕ, List, length, Option, None, Result, Ok, Err, IfOk, IfErr}
 use Rattle.rand_core.specs.Stream.{Stream}
 use Rattle.co_link.specs.Files.{Folder}
 use Rattle.co_link.specs.declared.messages.Exchange.{Exchange}

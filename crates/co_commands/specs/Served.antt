@@ -5,7 +5,7 @@ use Rattle.co_link.specs.Ports.{PortTells}
 use Rattle.co_serving.specs.declared.ended.Served.{Served}
 use Rattle.co_library.specs.Libraries.{Parts}
 use Rattle.co_commands.specs.Outside.{PortState, SinkState, Took, TookFront}
-use Rattle.co_commands.specs.Connections.{connection_line, connection_lines, AreServed, raised}
+use Rattle.co_commands.specs.Connections.{connection_lines, AreServed, raised}
 use Rattle.co_commands.specs.declared.refusals.Refusal.{Refusal}
 use Rattle.co_commands.specs.declared.refusals.Refusal.TheVariants as refusals
 

@@ -247,6 +247,29 @@ fn lines(alloc: Global, tally: &Tally) -> Result<String, AllocError>
     )
 }
 
+// The lines of all trials of what stands ready.
+fn ready_lines<T: Runs, R: Rng>(
+    rt: &T,
+    alloc: Global,
+    ready: &Ready,
+    command: &RehearseCommand,
+    rng: &mut R,
+) -> Result<String, Refusal>
+    requires shared { T.is_shared }
+    requires ranges { IsWithinRehearsals command.now }
+    requires ready { IsReady command.now ready.now }
+    ensures ok { IfOk result (λ text. RehearseAnswer command.now
+        (R.stream rng.old) (R.stream rng.new) (string_bytes text)) }
+    ensures cause { IfErr result (RehearseCause command.now
+        (R.stream rng.old) (R.stream rng.new)) }
+{
+    let tally = try_all(rt, alloc, ready, command, rng)?;
+    match lines(alloc, &tally) {
+        Ok(text) => Ok(text),
+        Err(_) => Err(Refusal::Memory),
+    }
+}
+
 // The lines of all trials.
 fn rehearsal<T: Runs, R: Rng>(
     rt: &T,
@@ -262,11 +285,7 @@ fn rehearsal<T: Runs, R: Rng>(
         (R.stream rng.old) (R.stream rng.new)) }
 {
     let ready = prepare(alloc, command)?;
-    let tally = try_all(rt, alloc, &ready, command, rng)?;
-    match lines(alloc, &tally) {
-        Ok(text) => Ok(text),
-        Err(_) => Err(Refusal::Memory),
-    }
+    ready_lines(rt, alloc, &ready, command, rng)
 }
 
 /// Makes up a library, answers eight queries by searches over links to its own sessions and by

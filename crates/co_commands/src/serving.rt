@@ -3,8 +3,10 @@ ghost use Rattle.std.specs.Prelude.{◌≡◌, ◌≤◌, ◌<◌, ◌+◌, ◌+
 ghost use Rattle.co_http.specs.ShortText.{text_of};
 ghost use Rattle.co_commands.specs.Words.{SpokenServe};
 ghost use Rattle.co_commands.specs.Commands.{serve_shown, IsWithinServing};
-ghost use Rattle.co_commands.specs.Outside.{DialState, files_by, port_by, sink_by, devices, outside};
+ghost use Rattle.co_commands.specs.Outside.{DialState, FilesState, files_by, port_by, sink_by};
+ghost use Rattle.co_commands.specs.Outside.{devices, outside};
 ghost use Rattle.co_commands.specs.Connections.{end_text, connection_line};
+ghost use Rattle.co_commands.specs.Locals.{CanBeServed};
 ghost use Rattle.co_commands.specs.Served.{ServesNext, ServesSome};
 ghost use Rattle.co_commands.specs.Runs.{Ended as CommandEnded};
 ghost use Rattle.co_commands.specs.declared.limits.TheConstants.{MAX_WORKERS};
@@ -109,6 +111,42 @@ fn serve_all<T: Threads + Sync, P: Port, O: Sink>(
     Ok(())
 }
 
+// Listens, and serves the connections of a command that has loaded its library.
+fn serve_loaded<T: Threads + Sync, P: Port, O: Sink>(
+    rt: &T,
+    alloc: Global,
+    loaded: &Loaded,
+    command: &ServeCommand<'_>,
+    port: &mut P,
+    out: &mut O,
+) -> Result<(), Refusal>
+    requires { IsWithinServing command.now }
+    ensures { let port_at = port_by P.tells P.Port.faults P.left P.put_so_far
+        P.Source.faults P.Sink.faults in
+        let out_at = sink_by O.put_so_far O.faults in
+        let words = serve_shown command.now in
+        (was is : FilesState) (random : Stream) (dial : DialState)
+        → CanBeServed was.held words.library loaded.now → is.held ≡ was.held
+        → CommandEnded (SpokenServe words)
+        (outside was (devices random dial (port_at port.old)) (out_at out.old))
+        (outside is (devices random dial (port_at port.new)) (out_at out.new))
+        result }
+{
+    match port.listen(command.port) {
+        Ok(()) => {}
+        Err(_) => return Err(Refusal::Port),
+    }
+    serve_all(
+        rt,
+        alloc,
+        loaded,
+        command.connections,
+        command.workers,
+        port,
+        out,
+    )
+}
+
 /// Loads a library once, listens, and serves connections one after another, each by a session of
 /// its own. The line of a connection is put when it has ended; what happens on it doesn't end the
 /// command.
@@ -132,17 +170,5 @@ pub fn serve<T: Threads + Sync, F: Files, P: Port, O: Sink>(
         result }
 {
     let loaded = load(alloc, command.library, files)?;
-    match port.listen(command.port) {
-        Ok(()) => {}
-        Err(_) => return Err(Refusal::Port),
-    }
-    serve_all(
-        rt,
-        alloc,
-        &loaded,
-        command.connections,
-        command.workers,
-        port,
-        out,
-    )
+    serve_loaded(rt, alloc, &loaded, command, port, out)
 }

@@ -1,7 +1,7 @@
 use Rattle.std.proofs.Common.{refl}
 use Rattle.std.proofs.lemmas.Result.{err_from_is_err_and}
 use Rattle.co_commands.specs.Commands.{serve_shown}
-use Rattle.co_commands.proofs.Serves.{unopened, cant_listen, serving_ends}
+use Rattle.co_commands.proofs.Serves.{unopened}
 use Rattle.co_commands.proofs.serving.serve.Goals as goal
 
 pub returns-in_err-loaded : goal.returns-in_err-loaded
@@ -10,14 +10,5 @@ returns-in_err-loaded g c = λ random dial.
     rw (p.1, p.2)
     (unopened (serve_shown c.args.command.now) _ _ c.in_err-loaded.field-0.0 c.in_err-loaded.ensures.cause refl refl c.in_err-loaded.ensures.files)
 
-pub returns-in-Err : goal.returns-in-Err
-returns-in-Err g c = λ random dial.
-    let e = c.in-Err.ensures in
-    cant_listen (serve_shown c.args.command.now) _ _ random dial _ _ _ c.in_ok-loaded.loaded c.in-Err.field-0 c.in_ok-loaded.ensures.ok c.in_ok-loaded.ensures.files
-    c.requires.least_connections e.tells e.put e.takes e.puts e.cause.failed
-
 pub returns : goal.returns
-returns g c = λ random dial.
-    let e = c.in-Ok.ensures in
-    serving_ends (serve_shown c.args.command.now) _ _ random dial _ _ _ _ _ c.in_ok-loaded.loaded c.serve_all.result c.in_ok-loaded.ensures.ok c.in_ok-loaded.ensures.files
-    e.tells e.put e.takes e.puts e.cause.same c.serve_all.ensures
+returns g c = λ random dial. c.serve_loaded.ensures _ _ random dial c.in_ok-loaded.ensures.ok c.in_ok-loaded.ensures.files
