@@ -13,7 +13,6 @@ mod bfv;
 mod board;
 mod bucket;
 mod cases;
-mod client;
 mod gates;
 mod library;
 mod lines;
@@ -40,9 +39,9 @@ use std::fs;
 use std::thread::Threads;
 
 /// The layers, lowest first.
-const LAYERS: [&str; 19] = [
+const LAYERS: [&str; 18] = [
     "ring", "rns", "slots", "noise", "bfv", "switch", "rot", "matvec", "pir", "board", "bucket",
-    "text", "tfidf", "pack", "library", "wire", "session", "client", "search",
+    "text", "tfidf", "pack", "library", "wire", "session", "search",
 ];
 
 fn line_of<R: Threads + Sync>(rt: &R, layer: &str, case: Case) -> Result<String, BadCase> {
@@ -63,7 +62,6 @@ fn line_of<R: Threads + Sync>(rt: &R, layer: &str, case: Case) -> Result<String,
         "library" => library::line(case),
         "wire" => wire::line(case),
         "session" => session::line(rt, case),
-        "client" => client::line(case),
         "search" => search::line(rt, case),
         _ => Err(BadCase::Unfit),
     }
