@@ -22,8 +22,8 @@ use Rattle.co_bfv.specs.Encryptions.{delta, encrypted, opened, decrypted}
 use Rattle.co_math.proofs.Degrees.{degree_positive}
 use Rattle.co_math.proofs.Residue_lists.{residues_of-are, residues_of-is, length-residues_of, residues_of-agree, signed-IsWrapped, signed-small}
 use Rattle.co_math.proofs.Wrapped.{plus-IsWrapped, minus-IsWrapped}
-use Rattle.co_bfv.specs.Draws.{uniform_draw, error_draw, encryption_draw}
-use Rattle.co_bfv.proofs.Drawn.{AreSmall, errors_small}
+use Rattle.co_bfv.specs.Draws.{binomial_draw, uniform_draw, error_draw, encryption_draw}
+use Rattle.co_bfv.proofs.Drawn.{AreSmall, errors_small, length-drawn}
 use Rattle.co_bfv.proofs.Fresh.{means_fresh}
 use Rattle.co_bfv.proofs.Decoded.{decoded}
 
@@ -36,43 +36,72 @@ signed_to n xs z e = subst (λ (k : ℕ). IsWrapped k (signed_coefficients xs)) 
 same : (f : ℤ → ℤ) → Agree q f f
 same f k = cong-refl q (f k)
 
--- c0 of an encryption, from what the steps give
-pub masked_residues : (n : ℕ) (d e p : ℤ → ℤ) (es xs hs ys : List ℕ) → 0 < n → IsWrapped n d → IsWrapped n e → IsWrapped n p
-    → AreResidues q n e es → AreResidues q n (plus d (coefficients es)) xs → AreResidues q n p hs → AreResidues q n (minus (coefficients xs) (coefficients hs)) ys
-    → AreResidues q n (minus (plus d e) p) ys
-masked_residues n d e p es xs hs ys z wd we wp r x h y =
-    residues_for q n (minus (coefficients xs) (coefficients hs)) (minus (plus d e) p) ys (omega arith) (λ k u. minus_agree q (coefficients xs) (coefficients hs) (plus d e) p sums (residues_agree q n p hs (omega arith) z wp h) (pos k)) y
-  where
-    sums : Agree q (coefficients xs) (plus d e)
-    sums = residues_agree q n (plus d e) xs (omega arith) z (plus-IsWrapped n d e wd we)
-        (residues_for q n (plus d (coefficients es)) (plus d e) xs (omega arith) (λ k u. plus_agree q d (coefficients es) d e (same d) (residues_agree q n e es (omega arith) z we r) (pos k)) x)
+length-errors : (n : ℕ) (s : Stream) → length (error_draw n s).0 ≡ n
+unfolding error_draw
+length-errors n s = length-drawn binomial_draw n s
 
--- both parts of an encryption
-encrypted_are : (secret : List ℤ) (message us : List ℕ) (e : List ℤ) (es hs xs ys : List ℕ) → IsDegree (length secret)
-    → length message ≡ length secret → length e ≡ length secret
-    → AreResidues q (length secret) (signed_coefficients e) es
-    → AreResidues q (length secret) (product (length secret) (coefficients us) (signed_coefficients secret)) hs
-    → AreResidues q (length secret) (plus (coefficients (map delta message)) (coefficients es)) xs
-    → AreResidues q (length secret) (minus (coefficients xs) (coefficients hs)) ys
-    → record { c0 = ys; c1 = us } ≡ encrypted secret message us e
+-- a scaled message with an error, from what the steps give
+pub noisy_residues : (message : List ℕ) (k : ℕ) (s : Stream) (ds es xs : List ℕ) → IsDegree (length message) → k ≡ length message → ds ≡ map delta message
+    → es ≡ residues_of q k (signed_coefficients (error_draw k s).0) → AreResidues q (length ds) (plus (coefficients ds) (coefficients es)) xs
+    → AreResidues q (length message) (plus (coefficients (map delta message)) (signed_coefficients (error_draw (length message) s).0)) xs
+noisy_residues message k s ds es xs h e d r x =
+    residues_for q n (plus scaled (coefficients es)) (plus scaled error) xs (omega arith)
+    (λ j u. plus_agree q scaled (coefficients es) scaled error (same scaled) (residues_agree q n error es (omega arith) z (signed_to n (error_draw n s).0 z (length-errors n s)) drawn) (pos j))
+    (subst (λ (v : List ℕ). AreResidues q n (plus (coefficients v) (coefficients es)) xs) d
+    (subst (λ (j : ℕ). AreResidues q j (plus (coefficients ds) (coefficients es)) xs) (ap length d ∙ length-map message delta) x))
+  where
+    n : ℕ
+    n = length message
+
+    z : 0 < n
+    z = degree_positive n h
+
+    scaled : ℤ → ℤ
+    scaled = coefficients (map delta message)
+
+    error : ℤ → ℤ
+    error = signed_coefficients (error_draw n s).0
+
+    drawn : AreResidues q n error es
+    drawn = subst (AreResidues q n error) (sym (r ∙ ap (λ j. residues_of q j (signed_coefficients (error_draw j s).0)) e)) (residues_of-are q n error)
+
+-- c0 of an encryption, from what the steps give
+pub masked_is : (secret : List ℤ) (message us : List ℕ) (s : Stream) (xs hs ys : List ℕ) → IsDegree (length secret) → length message ≡ length secret
+    → AreResidues q (length message) (plus (coefficients (map delta message)) (signed_coefficients (error_draw (length message) s).0)) xs
+    → hs ≡ residues_of q (length secret) (product (length secret) (coefficients us) (signed_coefficients secret))
+    → AreResidues q (length xs) (minus (coefficients xs) (coefficients hs)) ys → ys ≡ (encrypted secret message us (error_draw (length secret) s).0).c0
 unfolding encrypted
-encrypted_are secret message us e es hs xs ys d lm le er h x y i = record { c0 = first i; c1 = us }
+masked_is secret message us s xs hs ys h em x m y =
+    residues_of-is q n (minus (plus scaled error) p) ys
+    (residues_for q n (minus (coefficients xs) (coefficients hs)) (minus (plus scaled error) p) ys (omega arith)
+    (λ k u. minus_agree q (coefficients xs) (coefficients hs) (plus scaled error) p sums mask (pos k))
+    (subst (λ (j : ℕ). AreResidues q j (minus (coefficients xs) (coefficients hs)) ys) added.len y))
   where
     n : ℕ
     n = length secret
 
     z : 0 < n
-    z = degree_positive n d
+    z = degree_positive n h
+
+    scaled : ℤ → ℤ
+    scaled = coefficients (map delta message)
+
+    error : ℤ → ℤ
+    error = signed_coefficients (error_draw n s).0
 
     p : ℤ → ℤ
     p = product n (coefficients us) (signed_coefficients secret)
 
-    first : ys ≡ residues_of q n (minus (plus (coefficients (map delta message)) (signed_coefficients e)) p)
-    first =
-        residues_of-is q n (minus (plus (coefficients (map delta message)) (signed_coefficients e)) p) ys
-        (masked_residues n (coefficients (map delta message)) (signed_coefficients e) p es xs hs ys z
-        (wrapped_to n (map delta message) z (length-map message delta ∙ lm)) (signed_to n e z le) (product-IsWrapped n (coefficients us) (signed_coefficients secret) (signed-IsWrapped secret z))
-        er x h y)
+    added : AreResidues q n (plus scaled error) xs
+    added = subst (λ (j : ℕ). AreResidues q j (plus scaled (signed_coefficients (error_draw j s).0)) xs) em x
+
+    sums : Agree q (coefficients xs) (plus scaled error)
+    sums =
+        residues_agree q n (plus scaled error) xs (omega arith) z
+        (plus-IsWrapped n scaled error (wrapped_to n (map delta message) z (length-map message delta ∙ em)) (signed_to n (error_draw n s).0 z (length-errors n s))) added
+
+    mask : Agree q (coefficients hs) p
+    mask = residues_agree q n p hs (omega arith) z (product-IsWrapped n (coefficients us) (signed_coefficients secret) (signed-IsWrapped secret z)) (subst (AreResidues q n p) (sym m) (residues_of-are q n p))
 
 -- t * Delta(m) is q * m but for half of t
 delta-near : (x : ℕ) → unsigned_abs (pos plain_modulus *ℤ pos (delta x) -ℤ pos q *ℤ pos x) ≤ plain_half
@@ -177,10 +206,8 @@ decrypted_are secret c m b h l = record {
     at k u = let r = residues_of-are q n f in r.each k u
 
 -- an encryption, from what its steps give
-module _ (secret : List ℤ) (message : List ℕ) (k : ℕ) (s t u : Stream) (us es hs ds xs ys : List ℕ) (h : IsSecret secret)
-    (ek : k ≡ length message) (em : length message ≡ length secret)
-    (a : us ≡ (uniform_draw k s).0) (at : t ≡ (uniform_draw k s).1)
-    (e : es ≡ residues_of q k (signed_coefficients (error_draw k t).0)) (et : u ≡ (error_draw k t).1) where
+module _ (secret : List ℤ) (message : List ℕ) (k : ℕ) (s t : Stream) (us : List ℕ) (h : IsSecret secret) (ek : k ≡ length message) (em : length message ≡ length secret)
+    (a : us ≡ (uniform_draw k s).0) (at : t ≡ (uniform_draw k s).1) where
   drawn_a : us ≡ (uniform_draw (length secret) s).0
   drawn_a = a ∙ ap (λ (j : ℕ). (uniform_draw j s).0) (ek ∙ em)
 
@@ -190,37 +217,21 @@ module _ (secret : List ℤ) (message : List ℕ) (k : ℕ) (s t u : Stream) (us
   errors : List ℤ
   errors = (error_draw (length secret) (uniform_draw (length secret) s).1).0
 
-  drawn_e : es ≡ residues_of q (length secret) (signed_coefficients errors)
-  unfolding errors
-  drawn_e = e ∙ (λ i. residues_of q ((ek ∙ em) i) (signed_coefficients (error_draw ((ek ∙ em) i) (after_a i)).0))
-
   small : AreSmall (length secret) error_bound errors
   unfolding error_draw errors
   small = errors_small (length secret) (uniform_draw (length secret) s).1
 
-  pub rest_after : u ≡ (encryption_draw secret message s).1
+  pub rest_after : (u : Stream) → u ≡ (error_draw (length secret) t).1 → u ≡ (encryption_draw secret message s).1
   unfolding encryption_draw
-  rest_after = et ∙ (λ i. (error_draw ((ek ∙ em) i) (after_a i)).1)
+  rest_after u e = e ∙ ap (λ (v : Stream). (error_draw (length secret) v).1) after_a
 
   pub fresh_means : MeansWithin (signed_coefficients secret) (encryption_draw secret message s).0 (coefficients message) fresh_bound
   unfolding encryption_draw errors
   fresh_means = encrypted_means secret message (uniform_draw (length secret) s).0 errors h em small
 
-  pub encryption_is : hs ≡ residues_of q (length secret) (product (length secret) (coefficients us) (signed_coefficients secret)) → ds ≡ map delta message
-      → AreResidues q (length ds) (plus (coefficients ds) (coefficients es)) xs → AreResidues q (length xs) (minus (coefficients xs) (coefficients hs)) ys
-      → record { c0 = ys; c1 = us } ≡ (encryption_draw secret message s).0
-  unfolding encryption_draw errors
-  encryption_is m d x y =
-      let n = length secret in
-      let p = product n (coefficients us) (signed_coefficients secret) in
-      let ld : length ds ≡ n = ap length d ∙ length-map message delta ∙ em in
-      let x' : AreResidues q n (plus (coefficients (map delta message)) (coefficients es)) xs =
-      subst (λ (v : List ℕ). AreResidues q n (plus (coefficients v) (coefficients es)) xs) d (subst (λ (j : ℕ). AreResidues q j (plus (coefficients ds) (coefficients es)) xs) ld x) in
-      let y' : AreResidues q n (minus (coefficients xs) (coefficients hs)) ys = subst (λ (j : ℕ). AreResidues q j (minus (coefficients xs) (coefficients hs)) ys) (x.len ∙ ld) y in
-      encrypted_are secret message us errors es hs xs ys h.degree em small.len
-      (subst (AreResidues q n (signed_coefficients errors)) (sym drawn_e) (residues_of-are q n (signed_coefficients errors)))
-      (subst (AreResidues q n p) (sym m) (residues_of-are q n p)) x' y'
-      ∙ ap (λ (v : List ℕ). encrypted secret message v errors) drawn_a
+  pub encryption_is : (ys : List ℕ) → ys ≡ (encrypted secret message us (error_draw (length secret) t).0).c0 → record { c0 = ys; c1 = us } ≡ (encryption_draw secret message s).0
+  unfolding encryption_draw encrypted
+  encryption_is ys e = (λ i. record { c0 = e i; c1 = us }) ∙ (λ i. encrypted secret message (drawn_a i) (error_draw (length secret) (after_a i)).0)
 
 -- what scaling and opening give
 pub delta-below : (x : ℕ) → x < plain_modulus → delta x < q

@@ -1,3 +1,4 @@
+pub mod Mapped
 pub mod Ternary
 pub mod Kept
 pub mod Copies

@@ -1,6 +1,6 @@
 //! Ciphertexts: their parts, sums and differences, and products with plain polynomials.
 
-ghost use Rattle.std.specs.Prelude.{ℕ, ℤ, pos, ◌≡◌, ◌+◌, ◌*◌, length, IfOk};
+ghost use Rattle.std.specs.Prelude.{ℕ, ℤ, pos, ◌≡◌, ◌*◌, length, IfOk};
 ghost use Rattle.co_math.specs.Parameters.{plain_half};
 ghost use Rattle.co_math.specs.Polynomials.{IsWrapped, plus, minus, product};
 ghost use Rattle.co_ring.specs.Polynomials.{degree_of};

@@ -1,6 +1,6 @@
 //! Random polynomials, drawn from a generator's words.
 
-ghost use Rattle.std.specs.Prelude.{ℕ, ◌≡◌, ◌<◌, ◌≤◌, length, unsigned_abs, IfOk, OnOk};
+ghost use Rattle.std.specs.Prelude.{◌≡◌, ◌<◌, ◌≤◌, length, unsigned_abs, IfOk, OnOk};
 ghost use Rattle.co_math.specs.Parameters.{q, first_modulus, second_modulus};
 ghost use Rattle.co_rns.specs.Residue_pairs.{composed};
 ghost use Rattle.co_math.specs.Coefficients.{residues_of, signed_coefficients};
@@ -9,7 +9,7 @@ ghost use Rattle.co_bfv.specs.Draws.{secret_draw, uniform_draw, error_draw};
 
 use crate::secrets::Secret;
 use crate::signed::residues;
-use co_math::parameters::{ERROR_BOUND, FIRST_MODULUS, SECOND_MODULUS};
+use co_math::{ERROR_BOUND, FIRST_MODULUS, SECOND_MODULUS};
 use co_ring::{Degree, Modulus, Poly};
 use co_rns::Pair;
 use rand_core::Rng;

@@ -2,16 +2,17 @@
 
 ghost use Rattle.std.specs.Prelude.{ℕ, ℤ, ◌≡◌, ◌*◌, ◌<◌, map, length, IfOk, OnOk};
 ghost use Rattle.co_math.specs.Parameters.{q, plain_modulus, fresh_bound};
-ghost use Rattle.co_math.specs.Coefficients.{AreResidues, signed_coefficients};
+ghost use Rattle.co_math.specs.Polynomials.{plus};
+ghost use Rattle.co_math.specs.Coefficients.{coefficients, AreResidues, signed_coefficients};
 ghost use Rattle.co_ring.specs.Polynomials.{degree_of, polynomial_of};
 ghost use Rattle.co_bfv.specs.Ciphertexts.{MeansWithin, ciphertext_degree};
-ghost use Rattle.co_bfv.specs.Encryptions.{delta, opened, decrypted};
-ghost use Rattle.co_bfv.specs.Draws.{encryption_draw};
+ghost use Rattle.co_bfv.specs.Encryptions.{delta, encrypted, opened, decrypted};
+ghost use Rattle.co_bfv.specs.Draws.{encryption_draw, error_draw};
 
 use crate::ciphers::Cipher;
 use crate::draws::{sample_error, sample_uniform};
 use crate::secrets::Secret;
-use co_math::parameters::{CIPHER_MODULUS, PLAIN_MODULUS};
+use co_math::{CIPHER_MODULUS, PLAIN_MODULUS};
 use co_ring::{Modulus, Poly};
 use co_rns::Pair;
 use rand_core::Rng;
@@ -35,14 +36,49 @@ pub fn encrypt<R: Rng>(
     ensures degree { IfOk result (λ c. ciphertext_degree c ≡ length secret.now) }
 {
     let _ = secret.degree();
-    let degree = message.shape();
-    let a = sample_uniform(alloc, degree, rng)?;
-    let e = sample_error(alloc, degree, rng)?;
-    let mask = secret.mul(alloc, &a)?;
-    let mut c0 = scale(alloc, message)?;
-    c0.add_in(&e);
-    c0.sub_in(&mask);
+    let a = sample_uniform(alloc, message.shape(), rng)?;
+    let c0 = masked(alloc, secret, message, &a, rng)?;
     Ok(Cipher::from_parts(c0, a))
+}
+
+/// What is added in an encryption with the uniform polynomial a.
+fn masked<R: Rng>(
+    alloc: Global,
+    secret: &Secret,
+    message: &Poly,
+    a: &Pair,
+    rng: &mut R,
+) -> Result<Pair, AllocError>
+    requires plain_modulus { message.now.modulus ≡ Modulus.Plain }
+    requires message_degree { degree_of message.now ≡ length secret.now }
+    requires one_degree { length a.now ≡ length secret.now }
+    ensures value { IfOk result (λ p. let e = (error_draw (length secret.now) (R.stream rng.old)).0 in
+        p ≡ (encrypted secret.now message.now.coeffs a.now e).c0) }
+    ensures rest { OnOk result (
+        R.stream rng.new ≡ (error_draw (length secret.now) (R.stream rng.old)).1) }
+    ensures degree { IfOk result (λ p. length p ≡ length secret.now) }
+{
+    let _ = secret.degree();
+    let mut c0 = noisy(alloc, message, rng)?;
+    let mask = secret.mul(alloc, a)?;
+    c0.sub_in(&mask);
+    Ok(c0)
+}
+
+/// A message times q / t, rounded, and an error.
+fn noisy<R: Rng>(alloc: Global, message: &Poly, rng: &mut R) -> Result<Pair, AllocError>
+    requires { message.now.modulus ≡ Modulus.Plain }
+    ensures value { IfOk result (λ p. let n = degree_of message.now in
+        AreResidues q n (plus (coefficients (map delta message.now.coeffs))
+        (signed_coefficients (error_draw n (R.stream rng.old)).0)) p) }
+    ensures rest { OnOk result (
+        R.stream rng.new ≡ (error_draw (degree_of message.now) (R.stream rng.old)).1) }
+{
+    let _ = message.degree();
+    let mut scaled = scale(alloc, message)?;
+    let e = sample_error(alloc, message.shape(), rng)?;
+    scaled.add_in(&e);
+    Ok(scaled)
 }
 
 /// Decrypts a ciphertext: to the message that it means, wherever twice its noise is below q.

@@ -1,5 +1,5 @@
 //! A board and its passes.
-ghost use Rattle.std.specs.Prelude.{◌≡◌, ◌≤◌, ◌<◌, ◌^◌, ℕ, All, IfOk, length, map, [], ◌∷◌};
+ghost use Rattle.std.specs.Prelude.{◌≡◌, ◌≤◌, ◌<◌, ◌^◌, All, IfOk, length, map, [], ◌∷◌};
 ghost use Rattle.co_board.specs.Once.{EachOnce};
 ghost use Rattle.co_board.specs.Passes.{PassValue, HadNone, units_of, Claimed, pass_of, drawn_of, new_passes, fresh_passes, IsClosed};
 ghost use Rattle.co_board.specs.Rule.{all_hands, first_hand};

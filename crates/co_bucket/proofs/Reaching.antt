@@ -183,25 +183,6 @@ module _ (cs : List (List ℕ)) (n hole : ℕ) (choices items buckets : List ℕ
     placed = λ j in_j. (get_or shifted j [], r.placed j in_j);
   }
 
--- the hole alone is reached
-pub started : (cs : List (List ℕ)) (n hole : ℕ) (choices items buckets : List ℕ) (shifted : List (List ℕ)) → length choices ≡ MOST_ITEMS → hole < n → IsAssignmentBut cs n hole choices
-    → items ≡ hole ∷ [] → buckets ≡ [] → shifted ≡ choices ∷ [] → IsReached cs n hole choices items buckets shifted
-started cs n hole choices items buckets shifted wide in_n base i_is b_is s_is = rw (i_is, b_is, s_is) (record {
-  base = base;
-  hole_in = in_n;
-  one_fewer = refl;
-  copies = refl;
-  first = refl;
-  item_in = λ j none. absurd (omega arith);
-  item_not = λ j none. absurd (omega arith);
-  owned = λ j none. absurd (omega arith);
-  apart = λ i j below none. absurd (omega arith);
-  wide = λ j one. let z : j ≡ 0 = omega arith in rw z wide;
-  placed = λ j one. let z : j ≡ 0 = omega arith in rw z base;
-  near = λ j x one in_x other. let z : j ≡ 0 = omega arith in rw z (inl (subst (λ k. x ≢ get_or (hole ∷ []) k 0) z other, refl));
-  asked = λ b has. let none : has.0 < 0 = has.1 in absurd (omega arith);
-})
-
 pub kept_more : (i b i' b' i'' b'' : List ℕ) → IsKept i b i' b' → IsKept i' b' i'' b'' → IsKept i b i'' b''
 kept_more i b i' b' i'' b'' one two = record {
   more = omega (arith, one.more, two.more);

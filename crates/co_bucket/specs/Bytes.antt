@@ -1,5 +1,5 @@
 -- The bytes of a bucket, and where the record of a document stands in them.
-use Rattle.std.specs.Prelude.{◌≡◌, ◌+◌, ◌-◌, ◌*◌, ◌/◌, ◌%◌, ◌^◌, ◌≤◌, ℕ, List, ◌++◌, length, take, drop, max, replicate}
+use Rattle.std.specs.Prelude.{◌≡◌, ◌-◌, ◌*◌, ◌/◌, ◌%◌, ◌^◌, ◌≤◌, ℕ, List, ◌++◌, length, take, drop, max, replicate}
 use Rattle.std.specs.List.{All, flat_map}
 use Rattle.co_bucket.specs.Rows.{records_a_row}
 

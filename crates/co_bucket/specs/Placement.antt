@@ -1,4 +1,5 @@
--- Which assignments there are, which is the least, and what tells that there is none.
+-- Which assignments there are, which is the least, and what tells that there is none: systems of
+-- distinct representatives (P. Hall: On representatives of subsets, 1935).
 use Rattle.std.specs.Prelude.{◌≡◌, ◌≢◌, ◌+◌, ◌<◌, ◌≤◌, ◌↔◌, ℕ, List, [], length, slice_index, slice_index_or, Option, Some, None}
 use Rattle.std.specs.List.{Contains}
 use Rattle.std.specs.List.Sorted.{IsStrictlyIncreasing}

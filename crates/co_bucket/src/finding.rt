@@ -3,7 +3,7 @@
 //! The search goes breadth first over the items that can be left without a bucket in its stead. For
 //! each of them it keeps the whole assignment of the others, so that no path is ever walked back.
 
-ghost use Rattle.std.specs.Prelude.{◌≡◌, ◌≢◌, ◌+◌, ◌<◌, ◌≤◌, ℕ, List, [], length, slice_index, slice_index_or, IfOk, IfSome, MatchOption};
+ghost use Rattle.std.specs.Prelude.{◌≡◌, ◌≢◌, ◌+◌, ◌<◌, ◌≤◌, ℕ, [], length, slice_index, IfOk, IfSome, MatchOption};
 ghost use Rattle.std.specs.List.{Contains};
 ghost use Rattle.co_bucket.specs.Placement.{IsCandidate, IsAssignmentBut};
 ghost use Rattle.co_bucket.specs.Reached.{AreReached, AreKept, IsStep, IfUnplaced, IsClosed};

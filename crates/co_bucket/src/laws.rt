@@ -1,6 +1,6 @@
 //! Facts on lists, rows and placements. Each function returns nothing: its contract is the fact.
 
-ghost use Rattle.std.specs.Prelude.{◌≡◌, ◌*◌, ◌<◌, ◌≤◌, ◌↔◌, ℕ, List, [], length, take, drop, slice_index, slice_index_or, Option};
+ghost use Rattle.std.specs.Prelude.{◌≡◌, ◌*◌, ◌<◌, ◌↔◌, ℕ, List, [], length, take, drop, slice_index, slice_index_or, Option};
 ghost use Rattle.std.specs.List.{Contains};
 ghost use Rattle.std.specs.List.Sorted.{IsStrictlyIncreasing};
 ghost use Rattle.co_bucket.specs.Lists.{bucket_count, candidates_of, listed, lists_of};

@@ -1,8 +1,8 @@
 //! Puts items into buckets, one a bucket: the least assignment, or why there is none.
 
-ghost use Rattle.std.specs.Prelude.{◌≡◌, ◌≢◌, ◌+◌, ◌<◌, ◌≤◌, ℕ, List, [], ◌∷◌, length, slice_index, slice_index_or, slice_set, IfOk, IfSome, MatchOption, MatchResult};
+ghost use Rattle.std.specs.Prelude.{◌≡◌, ◌≢◌, ◌+◌, ◌<◌, ◌≤◌, ℕ, List, [], ◌∷◌, length, slice_index, slice_set, IfOk, MatchResult};
 ghost use Rattle.std.specs.List.{All, Contains};
-ghost use Rattle.co_bucket.specs.Placement.{IsCandidate, IsAssignment, IsLeast, IsInverse, IsPlacement};
+ghost use Rattle.co_bucket.specs.Placement.{IsAssignment, IsLeast, IsInverse, IsPlacement};
 ghost use Rattle.co_bucket.specs.Refusal.{Refuses};
 
 use crate::MOST_ITEMS;

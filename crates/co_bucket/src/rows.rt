@@ -1,11 +1,11 @@
 //! How many rows of records hold the lists of the buckets.
 
-ghost use Rattle.std.specs.Prelude.{◌≡◌, ◌+◌, ◌<◌, ◌≤◌, ◌^◌, ℕ, List, [], length, take, map, max, false, slice_index, slice_set, if◌then◌else◌};
+ghost use Rattle.std.specs.Prelude.{◌≡◌, ◌+◌, ◌<◌, ◌≤◌, ◌^◌, [], length, take, map, max, false, slice_index, slice_set, if◌then◌else◌};
 ghost use Rattle.std.specs.List.{All, fold};
 ghost use Rattle.std.specs.Int.{div_ceil};
 ghost use Rattle.co_bucket.specs.Lists.{bucket_count, is_in, lists_of};
 ghost use Rattle.co_bucket.specs.Rows.{records_a_row, longest, row_count, rows_of, IsRowCount};
-ghost use Rattle.co_bucket.specs.Filling.{contents, AreShort, IsStepped, IsCounted};
+ghost use Rattle.co_bucket.specs.Filling.{contents, AreShort, IsStepped};
 
 use crate::listing::{Lists, buckets, candidates};
 use crate::{MOST_BUCKETS, MOST_ITEMS};

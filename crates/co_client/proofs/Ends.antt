@@ -158,9 +158,6 @@ first-follows e is = ap (λ (r : Request). (r.target, length r.body) ∷ []) is 
 no_result : {A : Type 0} (x : A) (place : ℕ) → Err place ≡ Ok x → ⊥
 no_result {A} x place e = subst (λ (r : Result A ℕ). elim r as (λ _. Type 0) [ Ok y ↦ ⊥ | Err p ↦ Unit {0} ]) e tt
 
-no_test : (s : Numbers) (fault : TestFault) → Err fault ≡ Ok s → ⊥
-no_test s fault e = subst (λ (r : Result Numbers TestFault). elim r as (λ _. Type 0) [ Ok y ↦ ⊥ | Err p ↦ Unit {0} ]) e tt
-
 -- the one reply is refused
 one-refused : (run : Search) (e : Exchange) (fault : SearchFault) → taken (Err fault) 1 ≡ 0 → begun (Err fault) 1 ≡ 1 → EndsFirst run (e ∷ []) (Err fault)
 one-refused run e fault t b = record {

@@ -122,17 +122,6 @@ two-whole {run} s b =
     let third = exchange_of (score_request s b.begun.messages run.stream) (reply_with 200 b.reply) in
     more-all (IsWholeReply s) (keys_of s run.stream) (third ∷ []) (keys-whole s run.stream) (more-all (IsWholeReply s) third [] (third-whole s b.begun.messages run.stream b.reply b.replies b.spelled) (none-all (IsWholeReply s)))
 
--- memory is wanting before records are asked for
-pub scored-told : (run : Search) (was now : Option (List Exchange)) (s : Numbers) (hits : List Ranked) (unknown : List (List ℕ)) (rest left : Stream) → Scored run was now s hits unknown rest → Told run was now (Err OutOfMemory) left
-scored-told run was now s hits unknown rest left b =
-    let third = exchange_of (score_request s b.begun.messages run.stream) (reply_with 200 b.reply) in
-    record {
-      exchanges = first_of b.begun.body ∷ keys_of s run.stream ∷ third ∷ [];
-      makes = b.makes;
-      tells = tells-here run s b.begun.terms b.begun.messages (first_of b.begun.body) (any-rows s) 0 b.begun.few b.begun.read b.begun.passes b.begun.are (any-long s) (keys_of s run.stream ∷ third ∷ []) (record { requests = refl })
-          (early-rows run (first_of b.begun.body ∷ keys_of s run.stream ∷ third ∷ []) s b.begun.terms (any-rows s) 0 (omega arith)) (three-good (first_of b.begun.body) (keys_of s run.stream) third refl refl refl) (two-whole s b) (Err OutOfMemory) left (λ a. a) tt tt (λ u. absurd (omega arith));
-    }
-
 -- ---- the rows and the bin that are asked
 
 -- rows and bin by the buckets and the witness, where the hits are known

@@ -1,4 +1,3 @@
-pub mod Results
 pub mod Whole_replies
 pub mod Spelled
 pub mod Ranged
@@ -29,7 +28,6 @@ pub mod Messages
 pub mod Ends
 pub mod RecordFaults
 pub mod Finishes
-pub mod Checked
 pub mod Recorded
 pub mod Conducted
 pub mod Tells_plainly

@@ -84,16 +84,6 @@ bin-read result s used secret n count body a b c h cs spelled =
 
 -- ---- the bytes of a row have room for each of its records
 
-fits : (start per last chunks n size bytes : ℕ) → start ≡ 256 * last → last < per → 256 * per ≤ size → size ≡ chunks * (2 * n) → bytes ≡ 2 * (chunks * n) → start + 256 ≤ bytes
-fits start per last chunks n size bytes a b c d e = omega (arith, a, b, c, d, e)
-
-pub record-room : (n p bytes : ℕ) → IsDegree n → bytes ≡ 2 * (record_chunks n * n) → record_start n p + 256 ≤ bytes
-record-room n p bytes d e =
-    let size : row_size n ≡ record_chunks n * (2 * n) = chunks n 0 (λ x. []) [] (record { exponent = d.exponent; least = d.least; most = d.most; is = d.is; each = λ i x u. absurd (omega arith); few = omega arith }) in
-    let some : 0 < records_a_row n = omega arith in
-    let room : 256 * records_a_row n ≤ row_size n = omega arith in
-    fits (record_start n p) (records_a_row n) (p % records_a_row n) (record_chunks n) n (row_size n) bytes refl (mod-lt p some) room size e
-
 -- ---- where the record of a placed hit stands
 
 pub places-long : (s : Numbers) (hits : List Ranked) (placed : List (Option ℕ)) (places : List ℕ) → places ≡ places_asked s hits placed → length places ≡ bucket_count s.hits
@@ -110,10 +100,6 @@ place-there s hits placed places rank bucket h e l is =
 
 -- ---- the records of hits by rank
 
-keep-all : (r : Result (List Record) SearchFault) → r ≡ (r >>= (λ rs. Ok ([] ++ rs)))
-keep-all (Ok rs) = refl
-keep-all (Err fault) = refl
-
 join-front : (r : Result (List Record) SearchFault) (one : Record) (front : List Record)
     → ((r >>= (λ rs. Ok (one ∷ rs))) >>= (λ rs. Ok (front ++ rs))) ≡ (r >>= (λ rs. Ok ((front ++ one ∷ []) ++ rs)))
 join-front (Ok rs) one front = ap (λ (x : List Record). Ok x) (sym (append_assoc front (one ∷ []) rs))
@@ -124,11 +110,6 @@ module _ (s : Numbers) (secret : List ℤ) (body : List ℕ) (placed : List (Opt
   abbrev pub AreReadTo : ℕ → List Record → Type 0
   AreReadTo rank front = (cs : List Ciphertext) (all : ℕ) → SpellsCiphers s.degree all cs body
       → records_read s secret cs placed 0 hits ≡ (records_read s secret cs placed rank (drop rank hits) >>= (λ rs. Ok (front ++ rs)))
-
-  pub none-read : (front : List Record) → front ≡ [] → AreReadTo 0 front
-  none-read front e cs all h =
-      keep-all (records_read s secret cs placed 0 hits)
-      ∙ ap (λ (x : List Record). records_read s secret cs placed 0 hits >>= (λ rs. Ok (x ++ rs))) (sym e)
 
   -- the record of the hit of a rank
   abbrev pub read-at : List Ciphertext → ℕ → Result Record SearchFault

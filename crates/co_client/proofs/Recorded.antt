@@ -47,10 +47,6 @@ pub ranks-shown : (s : Numbers) (hits : Hits) (placed : List (Option ℕ)) (refu
 ranks-shown s hits placed None p b r e = subst (λ (k : ℕ). r < k) (length-map hits (λ (h : hits_of.Ranked). candidates_of s.salt (bucket_count s.hits) h.document)) (p.places.only b r e).0
 ranks-shown s hits placed (Some witness) p b r e = absurd (none-some r (sym (p.1.free b) ∙ e))
 
-pub few-shown : (hits : Hits) (refused : Refused) → length (shown_of refused hits) ≤ length hits
-few-shown hits None = omega arith
-few-shown hits (Some witness) = omega arith
-
 -- the rows of the hits that are shown are those of all
 rows-shown : (s : Numbers) (hits : Hits) (placed : List (Option ℕ)) (refused : Refused) → ArePlaced s hits placed refused → rows_asked s (shown_of refused hits) placed ≡ rows_asked s hits placed
 rows-shown s hits placed None p = refl

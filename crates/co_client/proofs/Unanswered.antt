@@ -21,12 +21,6 @@ ask-round size was now r Link h = h
 ask-round size was now r OutOfMemory h = inl h
 ask-round size was now r fault h = absurd h
 
-pub ask-public : (was now : Option (List Exchange)) (fault : SearchFault) → AskFails was now public_request fault → PublicFails was now fault
-ask-public was now (Refused target status) h = h
-ask-public was now Link h = h
-ask-public was now OutOfMemory h = inl h
-ask-public was now fault h = absurd h
-
 -- a reply whose body is refused
 pub body-round : (size : ℕ) (was now : Option (List Exchange)) (r : Request) (body : List ℕ) (fault : SearchFault) → Comes was now r (reply_with 200 body) → IsRefusedBody size r.target body fault → RoundFails size was now r fault
 body-round size was now r body (BadReply target place) c h = record { target_is = h.0; body = body; bad = h.1; comes = c }

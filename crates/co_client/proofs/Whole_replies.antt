@@ -57,10 +57,6 @@ more-all P x xs p all (suc i) d l = all i d (omega arith)
 
 -- ---- counts
 
-pub taken-most : (result : Result Found SearchFault) (n : ℕ) → taken result n ≤ n
-taken-most (Err OutOfMemory) n = omega arith
-taken-most result n = omega arith
-
 pub begun-most : (result : Result Found SearchFault) (n : ℕ) → begun result n ≤ n + 1
 begun-most (Err Link) n = omega arith
 begun-most result n = omega arith

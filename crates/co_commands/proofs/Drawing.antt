@@ -24,6 +24,7 @@ use Rattle.co_client.specs.Causes.{Search, Publishes, IsRead, IsCause, IsAnswere
 use Rattle.co_client.specs.Going.{GoesOn}
 use Rattle.co_client.specs.declared.fault.SearchFault.{SearchFault}
 use Rattle.co_client.specs.declared.fault.SearchFault.TheVariants.{NoPlacement}
+use Rattle.co_client.proofs.Placed.{rows-long}
 use Rattle.co_commands.specs.Words.{LocalWords}
 use Rattle.co_commands.specs.Searches.{query_of}
 use Rattle.co_commands.specs.Locals.{search_for, IsDrawn}
@@ -66,10 +67,6 @@ library_told run l es s shape names library honest going all p =
 
 -- ---- the draws
 
-rows_count : (s : Numbers) (hits : List Ranked) (placed : List (Option ℕ)) → length (rows_asked s hits placed) ≡ bucket_count s.hits
-rows_count s hits placed =
-    length-map (range_with_len 0 (bucket_count s.hits)) (λ b. row_asked s hits (slice_index_or placed b None) b) ∙ length-range_with_len 0 (bucket_count s.hits)
-
 asked_by : (p : LocalWords) (l : Parts) (was is : Stream) (result : Result Found SearchFault) (es : List Exchange) (shape : Numbers) (names : List (List ℕ))
     (asks : Asks (search_for p was) es shape names result is) → length asks.rows ≡ bucket_count shape.hits → IsAnswered result
     → told shape names ≡ told l.shape l.terms → IsDrawn p l was is
@@ -94,7 +91,7 @@ is_drawn p l was is (Ok found) es library honest whole going read refused asked 
     let ranked = read.read.ranked in
     let asks : Asks (search_for p was) es read.shape read.terms (Ok found) is = asked read.shape read.terms ranked.published ranked.passes in
     asked_by p l was is (Ok found) es read.shape read.terms asks
-    (ap length (asks.placed_rows (omega (arith, count)) read.hits read.read.placed ranked read.read.placement) ∙ rows_count read.shape read.hits read.read.placed)
+    (ap length (asks.placed_rows (omega (arith, count)) read.hits read.read.placed ranked read.read.placement) ∙ rows-long read.shape read.hits read.read.placed)
     answered
     (library_told (search_for p was) l es w.shape read.shape read.terms library honest going w.all ranked.published)
 is_drawn p l was is (Err (NoPlacement documents buckets)) es library honest whole going read refused asked answered =
@@ -103,7 +100,7 @@ is_drawn p l was is (Err (NoPlacement documents buckets)) es library honest whol
     let cause = refused.0 in
     let asks : Asks (search_for p was) es cause.shape cause.terms (Err (NoPlacement documents buckets)) is = asked cause.shape cause.terms cause.ranked.published cause.ranked.passes in
     asked_by p l was is (Err (NoPlacement documents buckets)) es cause.shape cause.terms asks
-    (ap length (asks.unplaced_rows (omega (arith, count)) cause.hits documents buckets cause.ranked cause.unplaced) ∙ rows_count cause.shape cause.hits [])
+    (ap length (asks.unplaced_rows (omega (arith, count)) cause.hits documents buckets cause.ranked cause.unplaced) ∙ rows-long cause.shape cause.hits [])
     answered
     (library_told (search_for p was) l es w.shape cause.shape cause.terms library honest going w.all cause.ranked.published)
 is_drawn p l was is (Err fault) es library honest whole going read refused asked answered = absurd answered

@@ -8,9 +8,13 @@ use Rattle.co_corpus.specs.Documents.{IsCorpus}
 use Rattle.co_library.specs.Libraries.{Parts}
 use Rattle.co_library.specs.Files.{library_bytes}
 use Rattle.co_library.specs.Refusals.{IsPublished}
-use Rattle.co_commands.specs.Words.{ImportWords}
+use Rattle.co_commands.specs.declared.refusals.Refusal.{Refusal}
+use Rattle.co_commands.specs.declared.refusals.Refusal.TheVariants.{Publish, Memory}
+use Rattle.co_commands.specs.Words.{SpokenImport, ImportWords}
+use Rattle.co_commands.specs.Outside.{Outside}
 use Rattle.co_commands.specs.Searches.{HasCorpus}
-use Rattle.co_commands.specs.Imports.{ImportAnswer, import_text}
+use Rattle.co_commands.specs.Imports.{ImportAnswer, UnpublishedCause, import_text}
+use Rattle.co_commands.specs.Runs.{RefusedBy}
 
 -- files that a read left alone, and then the library's bytes put under its name
 pub import_answer : (i : ImportWords) (held mid now : Option Folder) (documents : List Document) (library : Parts) (put line : List ℕ)
@@ -26,6 +30,15 @@ import_answer i held mid now documents library put line corpus good published sa
   };
   text_is = text;
 }
+
+-- documents that aren't published are a refusal
+pub not_published : (i : ImportWords) (was is : Outside) (documents : List Document) (refusal : Refusal) → HasCorpus was.files.held i.corpus documents
+    → UnpublishedCause documents i.settings refusal → is.out.bytes ≡ was.out.bytes → is.files.held ≡ was.files.held → is.devices ≡ was.devices
+    → RefusedBy (SpokenImport i) was is refusal
+not_published i was is documents (Publish fault) corpus cause out files uses =
+    record { cause = record { documents = documents; corpus = corpus; refused = cause }; out = out; files = files; uses = uses }
+not_published i was is documents Memory corpus cause out files uses = record { cause = tt; out = out; files = files; uses = uses }
+not_published i was is documents refusal corpus cause out files uses = absurd cause
 
 -- what a read and then a write leave of another name
 pub others_kept : (held mid now : Option Folder) (name : List ℕ) → mid ≡ held → file_at now name ≡ file_at mid name → file_at now name ≡ file_at held name

@@ -3,7 +3,6 @@ pub mod Ending
 pub mod FewTerms
 pub mod Generated
 pub mod Importing
-pub mod Keywords
 pub mod Known
 pub mod Outcomes
 pub mod Rehearsing

@@ -33,7 +33,7 @@ use Rattle.co_commands.specs.declared.refusals.Refusal.TheVariants.{Publish, Sea
 use Rattle.co_commands.specs.Runs.{RefusedBy}
 use Rattle.co_commands.proofs.FewTerms.{terms_few}
 use Rattle.co_commands.proofs.Generated.{IsQuery, corpus_is, queries_few, queries_eight}
-use Rattle.co_commands.proofs.Keywords.{distinct_fewer}
+use Rattle.co_text.proofs.Numbered.{distinct_few}
 use Rattle.co_commands.proofs.Outcomes.{differ}
 use Rattle.co_commands.proofs.Telling.{flat-more}
 
@@ -41,7 +41,7 @@ use Rattle.co_commands.proofs.Telling.{flat-more}
 
 -- a made query has few terms
 query_few : (q : List (List ℕ)) → IsQuery q → length (distinct (terms (joined q))) ≤ 9
-query_few q i = omega (arith, distinct_fewer (terms (joined q)), terms_few q i.all, i.few)
+query_few q i = omega (arith, distinct_few (terms (joined q)), terms_few q i.all, i.few)
 
 pub made_few : (number place : ℕ) → place < 8 → length (distinct (terms (joined (slice_index_or (queries_of number) place [])))) ≤ 9
 made_few number place within =
@@ -161,9 +161,6 @@ tried p library pick q r was is before after plain both same j is_plain one othe
 
 -- ---- queries up to a place
 
-pub none_tried : (p : RehearseCommand) (library : Parts) (was : Stream) → AreTriedFor p library [] was was (tally_of [])
-none_tried p library was = record { trials = []; are = refl; tally_is = refl }
-
 count_taken : (number place : ℕ) → place < 8 → length (take place (queries_of number)) ≡ place
 count_taken number place within = length-take-le place (queries_of number) (omega (arith, within, queries_eight number))
 
@@ -256,11 +253,6 @@ stopped p was is (Unsearched fault) cause = cause
 stopped p was is Memory cause = tt
 stopped p was is refusal cause = absurd cause
 
-pub not_ready : (p : RehearseCommand) (was is : Stream) (refusal : Refusal) → ReadyCause p refusal → RehearseCause p was is refusal
-not_ready p was is (Publish fault) cause = cause
-not_ready p was is Memory cause = tt
-not_ready p was is refusal cause = absurd cause
-
 pub answered : (p : RehearseCommand) (library : Parts) (was is : Stream) (tally : Tally) (text : List ℕ) → IsMadeLibrary p library → AreTried p library was is tally
     → text ≡ rehearse_lines tally.agree tally.unplaced tally.plain → RehearseAnswer p was is text
 answered p library was is tally text published a lines = record {
@@ -271,14 +263,6 @@ answered p library was is tally text published a lines = record {
   all = all_counted p library 1 (queries_of p.number) was is a.trials published a.are ∙ queries_eight p.number;
   text_is = lines ∙ ap (λ (y : Tally). rehearse_lines y.agree y.unplaced y.plain) a.tally_is;
 }
-
-pub rehearse_refused : (p : RehearseCommand) (was is : Outside) (refusal : Refusal) → RehearseCause p was.devices.random is.devices.random refusal
-    → is.out.bytes ≡ was.out.bytes → is.files.held ≡ was.files.held → is.devices ≡ record was.devices { random = is.devices.random }
-    → RefusedBy (SpokenRehearse p) was is refusal
-rehearse_refused p was is (Publish fault) cause out files uses = record { cause = cause; out = out; files = files; uses = uses }
-rehearse_refused p was is (Unsearched fault) cause out files uses = record { cause = cause; out = out; files = files; uses = uses }
-rehearse_refused p was is Memory cause out files uses = record { cause = cause; out = out; files = files; uses = uses }
-rehearse_refused p was is refusal cause out files uses = absurd cause
 
 -- ---- the status that is due
 

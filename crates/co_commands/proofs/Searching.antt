@@ -71,13 +71,6 @@ same_library : (held : Option Folder) (name : List ℕ) (documents : List Docume
 same_library held name documents settings library other f i =
     same_value (library_in f.bytes) library other f.read (imported held name f.bytes documents settings other f.file.stands i)
 
--- a file that isn't read gives no library
-pub library_unread : (name : List ℕ) (was is : FilesState) (refusal : Refusal) → UnreadCause name was is refusal → OpenCause name was is refusal
-library_unread name was is (Library place) cause = absurd cause
-library_unread name was is LibraryTooLong cause = absurd cause
-library_unread name was is (Test fault) cause = absurd cause
-library_unread name was is refusal cause = cause
-
 -- ---- the search
 
 -- a search for the terms of a text, over a link that never fails
@@ -115,15 +108,6 @@ in_file p held was is result library served search = record {
 
 -- ---- how the command ends
 
-pub not_opened : (p : LocalWords) (was is : FilesState) (random left : Stream) (refusal : Refusal) → OpenCause p.library was is refusal
-    → LocalCause p was is random left refusal
-not_opened p was is random left (Library place) cause = cause
-not_opened p was is random left LibraryTooLong cause = cause
-not_opened p was is random left (Test fault) cause = cause
-not_opened p was is random left (File Read) cause = cause
-not_opened p was is random left Memory cause = tt
-not_opened p was is random left refusal cause = absurd cause
-
 -- a link that never fails is no cause
 unsearched : (p : LocalWords) (was is : FilesState) (random left : Stream) (fault : SearchFault) → Searched p was.held random left (Err fault)
     → LocalCause p was is random left (Unsearched fault)
@@ -156,16 +140,6 @@ pub found_text : (p : LocalWords) (held : Option Folder) (was is : Stream) (libr
     → HasFound p library was is text → LocalAnswer p held was is text
 found_text p held was is library text served h =
     record { found = h.found; searched = in_file p held was is (Ok h.found) library served h.search; text_is = h.text_is }
-
-pub local_refused : (p : LocalWords) (was is : Outside) (refusal : Refusal) → LocalCause p was.files is.files was.devices.random is.devices.random refusal
-    → Uses (SpokenLocal p) was.devices is.devices → is.out.bytes ≡ was.out.bytes → is.files.held ≡ was.files.held → RefusedBy (SpokenLocal p) was is refusal
-local_refused p was is (Library place) cause uses out files = record { cause = cause; out = out; files = files; uses = uses }
-local_refused p was is LibraryTooLong cause uses out files = record { cause = cause; out = out; files = files; uses = uses }
-local_refused p was is (Test fault) cause uses out files = record { cause = cause; out = out; files = files; uses = uses }
-local_refused p was is (Unsearched fault) cause uses out files = record { cause = cause; out = out; files = files; uses = uses }
-local_refused p was is (File Read) cause uses out files = record { cause = cause; out = out; files = files; uses = uses }
-local_refused p was is Memory cause uses out files = record { cause = cause; out = out; files = files; uses = uses }
-local_refused p was is refusal cause uses out files = absurd cause
 
 -- ---- the status that is due
 

@@ -320,11 +320,6 @@ next_unput library number connections was mid is out_was out_mid out_is s line r
 )
 next_unput library number connections was mid is out_was out_mid out_is s line refusal below f one line_is puts = absurd puts
 
--- all of them
-pub all_served : (library : Parts) (number connections : ℕ) (was is : PortState) (out_was out_is : SinkState) → SoFar library number connections was is out_was out_is
-    → (number < connections → ⊥) → ServesSome library connections was is out_was out_is (Ok tt)
-all_served library number connections was is out_was out_is f done = (f.served, omega (arith, f.count, f.within, done), f.so_far)
-
 -- no connection more was accepted
 pub next_unserved : (library : Parts) (number connections : ℕ) (was mid is : PortState) (out_was out_is : SinkState) (refusal : Refusal) → number < connections
     → SoFar library number connections was mid out_was out_is → ServesNext library mid is (Err refusal)

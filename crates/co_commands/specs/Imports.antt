@@ -14,7 +14,7 @@ use Rattle.co_commands.specs.Words.{ImportWords}
 use Rattle.co_commands.specs.Outside.{FilesState, Fails}
 use Rattle.co_commands.specs.Searches.{HasCorpus, IsToldCorpus, ReadCause}
 use Rattle.co_commands.specs.declared.refusals.Refusal.{Refusal}
-use Rattle.co_commands.specs.declared.refusals.Refusal.TheVariants.{Publish, File}
+use Rattle.co_commands.specs.declared.refusals.Refusal.TheVariants.{Publish, File, Memory}
 
 -- what is printed of a library's published numbers
 abbrev pub import_text : Numbers → List ℕ
@@ -34,6 +34,12 @@ pub record HasImport (held : Option Folder) (name : List ℕ) (documents : List 
     (settings : Settings) (library : Parts) : Type 0 where
   pub stands : file_at held name ≡ Some (Some (library_bytes library))
   pub of_corpus : IsLibraryFor documents settings library
+
+-- why these documents aren't published with the settings; want of memory has no cause
+abbrev pub UnpublishedCause : List Document → Settings → Refusal → Type 0
+UnpublishedCause documents settings (Publish fault) = IsRefused documents settings fault
+UnpublishedCause documents settings Memory = Unit {0}
+UnpublishedCause documents settings refusal = ⊥
 
 -- the library stands under its name, where the files tell, and the text is of its numbers
 pub record ImportAnswer (i : ImportWords) (was is : Option Folder) (text : List ℕ) : Type 0 where

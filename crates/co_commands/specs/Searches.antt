@@ -82,7 +82,8 @@ pub record PlainAnswer (p : PlainWords) (held : Option Folder) (text : List ℕ)
   pub found : HasText p documents text
 
 -- of a corpus that is read there is no text
-pub record PlainSearchCause (p : PlainWords) (held : Option Folder) (refusal : Refusal) : Type 0 where
+pub record PlainSearchCause (p : PlainWords) (held : Option Folder)
+    (refusal : Refusal) : Type 0 where
   pub documents : List Document
   pub corpus : HasCorpus held p.corpus documents
   pub cause : TextCause p refusal

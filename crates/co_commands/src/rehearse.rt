@@ -1,6 +1,6 @@
 //! The command `rehearse`: eight searches over a library that is made up, and the plain answers to
 //! them, compared.
-ghost use Rattle.std.specs.Prelude.{◌≡◌, ◌≤◌, ◌<◌, ◌^◌, ◌+◌, length, IfOk, IfErr, string_bytes};
+ghost use Rattle.std.specs.Prelude.{◌≡◌, ◌≤◌, ◌<◌, ◌+◌, length, IfOk, IfErr, string_bytes};
 ghost use Rattle.std.specs.Prelude.{slice_index_or, [], if◌then◌else◌};
 ghost use Rattle.co_text.specs.Terms.{terms, distinct};
 ghost use Rattle.co_text.specs.Printed.{printed};

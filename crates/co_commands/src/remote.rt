@@ -1,5 +1,4 @@
 //! The command `search`: a search over a dial.
-ghost use Rattle.std.specs.Prelude.{◌≡◌, ◌≤◌, IfOk, IfErr};
 ghost use Rattle.co_commands.specs.Words.{SpokenSearch};
 ghost use Rattle.co_commands.specs.Commands.{search_shown, IsWithinSearching};
 ghost use Rattle.co_commands.specs.Outside.{FilesState, PortState, dial_by, sink_by, devices, outside};

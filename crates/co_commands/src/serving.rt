@@ -1,5 +1,5 @@
 //! The command `serve`: a library on connections, one after another.
-ghost use Rattle.std.specs.Prelude.{◌≡◌, ◌≤◌, ◌<◌, ◌+◌, ◌++◌, ◌^◌, length, true};
+ghost use Rattle.std.specs.Prelude.{◌≡◌, ◌≤◌, ◌<◌, ◌+◌, ◌++◌, length, true};
 ghost use Rattle.co_http.specs.ShortText.{text_of};
 ghost use Rattle.co_commands.specs.Words.{SpokenServe};
 ghost use Rattle.co_commands.specs.Commands.{serve_shown, IsWithinServing};

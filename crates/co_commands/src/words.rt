@@ -1,5 +1,5 @@
 //! The words of the command line: a command, its positional words, options in any order, a query.
-ghost use Rattle.std.specs.Prelude.{◌≡◌, ◌++◌, IfOk, IfSome, string_bytes, map, option_map};
+ghost use Rattle.std.specs.Prelude.{◌≡◌, IfOk, IfSome, string_bytes, map, option_map};
 ghost use Rattle.co_commands.specs.Words.{plain_words, import_words, settings_of, shape_words};
 ghost use Rattle.co_commands.specs.Words.{local_words, serve_words, search_words};
 ghost use Rattle.co_commands.specs.Words.{rehearse_words, or_wrong, spoken, joined};

@@ -1,6 +1,6 @@
 -- What a step of a session makes of a request.
-use Rattle.std.proofs.Common.{◌≡◌, ℕ, List, Option, Some, None, refl, sym, ap, subst}
-use Rattle.std.specs.Prelude.{IsTrue, IfSome}
+use Rattle.std.proofs.Common.{◌≡◌, ℕ, List, Option, Some, None, refl, ap, subst}
+use Rattle.std.specs.Prelude.{IfSome}
 use Rattle.co_link.specs.declared.messages.Target.{Target}
 use Rattle.co_link.specs.declared.messages.Target.TheVariants.{Public, Keys as ForKeys, Score, Meta, Document}
 use Rattle.co_link.specs.declared.messages.Request.{Request}
@@ -10,21 +10,9 @@ use Rattle.co_library.specs.Libraries.{Parts}
 use Rattle.co_rounds.specs.Answers.{IsAnswer, IsDone, Holds, HoldsDone, reply_of}
 use Rattle.co_rounds.specs.declared.answer.Answer.{Answer}
 use Rattle.co_rounds.specs.declared.answer.Answer.TheVariants.{Done, Length, NoKeys, Range, OutOfMemory}
-use Rattle.co_serving.specs.Conversation.{is_reply_status}
 use Rattle.co_server.specs.Kept.{IsEmptyDone}
 use Rattle.co_serving.specs.declared.ended.Ended.{Ended}
 use Rattle.co_connections.specs.Serving.{ServingState, IsStep, fresh, Serving, ServesLibrary}
-
--- the status of a reply to an answer is one of a service
-pub reply_status : (answer : Answer) → IsTrue (is_reply_status (reply_of answer).status)
-reply_status (Done reply) = refl
-reply_status (Length wanted found) = refl
-reply_status NoKeys = refl
-reply_status (Range place) = refl
-reply_status OutOfMemory = refl
-
-pub status_of_reply : (answer : Answer) (reply : Reply) → reply ≡ reply_of answer → IsTrue (is_reply_status reply.status)
-status_of_reply answer reply is = subst (λ (r : Reply). IsTrue (is_reply_status r.status)) (sym is) (reply_status answer)
 
 -- keys are done with no bytes; so any other answer leaves those that are held
 done_left : (l : Parts) (old new : Option Keys) (target : Target) (body reply : List ℕ) → IsDone l old target body reply → HoldsDone l.shape old target body new

@@ -12,7 +12,7 @@ use Rattle.co_board.proofs.Closing.{units_at_most}
 use Rattle.co_switch.specs.Steps.{raised, HasRisen}
 use Rattle.co_switch.proofs.Rising.{raised-zero, raised-up}
 use Rattle.co_crew.proofs.Parts.{raised-part, raised-both}
-use Rattle.co_crew.specs.Crew.{IsEach, IsWhole, IsRun, IsTally}
+use Rattle.co_crew.specs.Crew.{IsWhole, IsRun, IsTally}
 
 both_true : (a b : Bool) → (a && b) ≡ true → (a ≡ true) × (b ≡ true)
 both_true true true e = (refl, refl)
@@ -26,10 +26,6 @@ flat-snoc f (q ∷ qs) p = ap (λ xs. f q ++ xs) (flat-snoc f qs p) ∙ sym (app
 sum_over-flat : (g : ℕ → ℕ) (f : PassValue → List ℕ) (ps : List PassValue) → sum_over g (flat_map f ps) ≡ sum_over (sum_over g) (map f ps)
 sum_over-flat g f [] = refl
 sum_over-flat g f (p ∷ ps) = sum_over-append g (f p) (flat_map f ps) ∙ ap (λ n. sum_over g (f p) + n) (sum_over-flat g f ps)
-
--- a sum over the units in any order
-pub each-total : (f : ℕ → ℕ) (units : ℕ) (us : List ℕ) → IsEach units us → sum_over f us ≡ sum_below units f
-each-total f units us each = let e = once-sum_below f units (us ∷ []) (record { each = λ x. (let o = each.once x in omega arith) }) in omega arith
 
 module _ {S : Type 0} (is_sum : List ℕ → S → Type 0) (units : ℕ) (cost : ℕ → ℕ) (start : ℕ) where
   pub tally_none : (s : S) → is_sum [] s → IsTally is_sum units cost start [] s start true

@@ -1,16 +1,14 @@
 -- Sums of ciphertexts over units.
-use Rattle.std.proofs.Common.{◌≡◌, ℕ, ◌+◌, ◌*◌, ◌/◌, ◌%◌, ◌<◌, refl, sym, ap, ◌∙◌, ⊎_elim, arith, ℤ, pos, ◌+ℤ◌, List, [], ◌∷◌, ◌++◌}
+use Rattle.std.proofs.Common.{◌≡◌, ℕ, ◌+◌, ◌*◌, ◌/◌, ◌%◌, ◌<◌, refl, sym, ◌∙◌, ⊎_elim, arith, ℤ, ◌+ℤ◌, List, [], ◌∷◌, ◌++◌}
 use Rattle.std.proofs.lemmas.Bool.{cases_lt}
 use Rattle.std.proofs.Math.Nat.{mul-le-mul_right, div-add-mod, mod-lt}
 use Rattle.co_math.specs.Parameters.{q}
-use Rattle.co_math.specs.Sums.{total}
 use Rattle.co_math.specs.Polynomials.{plus}
-use Rattle.co_math.specs.Coefficients.{coefficients, IsDegree, residues_of}
+use Rattle.co_math.specs.Coefficients.{coefficients, residues_of}
 use Rattle.co_math.proofs.Residues.{cong-add}
-use Rattle.co_bfv.specs.Ciphertexts.{Ciphertext, ciphertext_degree, ciphertext_sum, zero_ciphertext}
-use Rattle.co_bfv.specs.Totals.{IsOfDegree, ciphertext_total}
+use Rattle.co_bfv.specs.Ciphertexts.{Ciphertext, ciphertext_sum, zero_ciphertext}
+use Rattle.co_bfv.specs.Totals.{ciphertext_total}
 use Rattle.co_math.proofs.Residue_lists.{length-residues_of}
-use Rattle.co_bfv.proofs.Combined.{residues_whole}
 use Rattle.co_bfv.proofs.Totals.{residues_same, residues_agree_low, part-suc, sum-parts, total_of_totals}
 use Rattle.co_crew.specs.Crew.{IsEach}
 use Rattle.co_crew.specs.Sums.{total_over, units_total}
@@ -19,20 +17,6 @@ use Rattle.co_crew.proofs.Orders.{total_over-append, total_over-snoc, each-total
 pub units-none : (n : ℕ) (f : ℕ → Ciphertext) → units_total n f [] ≡ zero_ciphertext n
 unfolding units_total zero_ciphertext
 units-none n f = refl
-
-pub units-degree : (n : ℕ) (f : ℕ → Ciphertext) (us : List ℕ) → ciphertext_degree (units_total n f us) ≡ n
-unfolding units_total
-units-degree n f us = length-residues_of q n (λ x. total_over (λ u. coefficients (f u).c0 x) us)
-
-pub units-IsOfDegree : (n : ℕ) (f : ℕ → Ciphertext) (us : List ℕ) → IsDegree n → IsOfDegree n (units_total n f us)
-unfolding units_total
-units-IsOfDegree n f us d =
-    let x = λ (k : ℤ). total_over (λ u. coefficients (f u).c0 k) us in
-    let y = λ (k : ℤ). total_over (λ u. coefficients (f u).c1 k) us in
-    record {
-      cipher = record { c0 = residues_whole n x d; c1 = residues_whole n y d; one_degree = length-residues_of q n y ∙ sym (length-residues_of q n x) };
-      degree = length-residues_of q n x;
-    }
 
 -- one unit more
 pub units-snoc : (n : ℕ) (f : ℕ → Ciphertext) (us : List ℕ) (u : ℕ) → ciphertext_sum (units_total n f us) (f u) ≡ units_total n f (us ++ u ∷ [])

@@ -1,5 +1,5 @@
 //! The real link: it is dialled over TCP.
-ghost use Rattle.std.specs.Prelude.{◌≡◌, ◌≤◌, None, true};
+ghost use Rattle.std.specs.Prelude.{None, true};
 
 use crate::{Conn, HttpLink};
 use co_link::{Bytes, Dial, Dials, Link, LinkFailures, LinkFault, Reply, Request, StdStream};

@@ -1,5 +1,4 @@
 -- Files in memory.
-use Rattle.std.specs.Prelude.{List, Option}
 use Rattle.std.specs.BTreeMap.{get_by_text}
 use Rattle.co_link.specs.Calls.{Calls}
 use Rattle.co_link.specs.Files.{Folder}

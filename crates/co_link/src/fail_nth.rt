@@ -1,8 +1,8 @@
 //! A link round another that fails stated calls.
-ghost use Rattle.std.specs.Prelude.{◌≡◌, ◌≤◌, ◌+◌, ◌-◌, ◌^◌, min, Some, None, [], List, ℕ, true};
-ghost use Rattle.co_link.specs.Calls.{Calls, is_to_fail, after_call};
+ghost use Rattle.std.specs.Prelude.{◌≡◌, ◌+◌, ◌-◌, [], ℕ, true};
+ghost use Rattle.co_link.specs.Calls.{is_to_fail, after_call};
 ghost use Rattle.co_link.specs.Causes.{Rose};
-ghost use Rattle.co_link.specs.Exchanges.{LinkCall, DialCall, Records, Clears, LinkCause, DialCause, DialTells};
+ghost use Rattle.co_link.specs.Exchanges.{DialCall, Records, Clears, LinkCause, DialCause, DialTells};
 ghost use Rattle.co_link.specs.Dialled.{last_call, last_or, dialled_last, dialling_of};
 ghost use Rattle.co_link.specs.declared.link.LinkFault.TheVariants.{Failed};
 ghost use Rattle.std.specs.Prelude.{Err, IsErr, OnOk, false};
@@ -47,7 +47,7 @@ impl<K: Link + Drop> FailNth<K> {
 
 impl<K: Link + Drop> Link for FailNth<K> {
     ghost use Rattle.std.specs.Prelude.{ℕ, Option, ◌+◌};
-    ghost use Rattle.co_link.specs.Calls.{Calls, is_to_fail, after_call};
+    ghost use Rattle.co_link.specs.Calls.{is_to_fail, after_call};
     ghost use Rattle.co_link.specs.Causes.{Rose};
     ghost use Rattle.co_link.specs.Exchanges.{DialCall};
     ghost use Rattle.co_link.specs.Dialled.{last_call, dialling_of, last_or};

@@ -1,5 +1,5 @@
 //! A connection in memory: a source and a sink.
-ghost use Rattle.std.specs.Prelude.{◌≡◌, ◌≤◌, ◌<◌, Some, length};
+ghost use Rattle.std.specs.Prelude.{◌≡◌, ◌<◌, Some, length};
 ghost use Rattle.co_link.specs.Causes.{HasCause};
 ghost use Rattle.co_link.specs.Held.{Appends};
 ghost use Rattle.co_link.specs.MemoryConnection.{source_of, sink_of};

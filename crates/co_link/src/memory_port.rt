@@ -199,9 +199,8 @@ impl Port for MemoryPort {
             return Err(Failed);
         }
         let next = self.waiting.remove(0);
-        let done = self.current.take();
+        let done = self.current.replace(next);
         keep_ended(&mut self.ended, done);
-        self.current = Some(next);
         Ok(())
     }
 

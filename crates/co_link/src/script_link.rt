@@ -1,6 +1,6 @@
 //! A link in memory that plays a list of replies. A list says which calls are to fail.
-ghost use Rattle.std.specs.Prelude.{◌≡◌, ◌≤◌, ◌+◌, ◌-◌, ◌^◌, min, Some, None, [], List, ℕ, true, refl};
-ghost use Rattle.co_link.specs.Exchanges.{LinkCall, DialCall, Records, Clears, LinkCause, DialCause, DialTells};
+ghost use Rattle.std.specs.Prelude.{◌≡◌, ◌-◌, Some, [], ℕ, true};
+ghost use Rattle.co_link.specs.Exchanges.{DialCall, Records, Clears, LinkCause, DialCause, DialTells};
 ghost use Rattle.co_link.specs.Dialled.{last_call, dialled_last, dialling_of};
 ghost use Rattle.co_link.specs.ScriptLink.{script_told, script_left, script_calls, PlaysNext};
 ghost use Rattle.co_link.specs.Calls.{FailsExactly, is_to_fail, after_call};
@@ -81,19 +81,17 @@ impl Link for ScriptLink {
             self.failures.raise_at(request.target, limit);
             return Err(LinkFault::Failed);
         }
-        let Ok(reply) = self.left[0].copy(self.alloc) else {
-            return Err(LinkFault::OutOfMemory);
-        };
         if self.told.reserve(1).is_err() {
             return Err(LinkFault::OutOfMemory);
         }
+        let Ok(reply) = self.left[0].copy(self.alloc) else {
+            return Err(LinkFault::OutOfMemory);
+        };
         let kept = self.left.remove(0);
-        self.told
-            .push(Exchange {
-                request,
-                reply: kept,
-            })
-            .unwrap();
+        self.told.push_reserved(Exchange {
+            request,
+            reply: kept,
+        });
         Ok(reply)
     }
 }

@@ -10,7 +10,7 @@ use crate::{Bytes, FileFault, FileKind, Files, Source, StdSource};
 use std::alloc::Global;
 use std::fs::{File, OpenFile, Permissions};
 use std::io::{ErrorKind, Write};
-use std::{fs, io, rt};
+use std::{fs, rt};
 
 /// How many names beside a file are tried.
 const NAMES: u32 = 100;
@@ -88,6 +88,17 @@ fn read_file<R: rt::Files>(
     read_within(alloc, &mut StdSource::new(file), length, limit)
 }
 
+// Makes a file that isn't there yet; none where one is.
+fn create_new<R: rt::Files>(rt: &R, name: &str) -> Result<Option<R::File>, FileFault>
+    ensures { result ≡ Err TooLong → ⊥ }
+{
+    match File::create_new(rt, name) {
+        Ok(file) => Ok(Some(file)),
+        Err(e) if e.kind() == ErrorKind::AlreadyExists => Ok(None),
+        Err(_) => Err(FileFault::Failed),
+    }
+}
+
 // Makes a file NAME.0.part, or NAME.1.part and so on where that name is taken.
 fn create_beside<R: rt::Files>(
     rt: &R,
@@ -100,26 +111,24 @@ fn create_beside<R: rt::Files>(
         let Ok(beside) = format!(in alloc; "{name}.{number}.part") else {
             return Err(FileFault::OutOfMemory);
         };
-        match File::create_new(rt, beside.as_str()) {
-            Ok(file) => return Ok((beside, file)),
-            Err(e) if e.kind() == ErrorKind::AlreadyExists => {}
-            Err(_) => return Err(FileFault::Failed),
+        if let Some(file) = create_new(rt, beside.as_str())? {
+            return Ok((beside, file));
         }
     }
     Err(FileFault::Failed)
 }
 
-// Writes a whole file, and waits until the disk has it.
+// Writes a whole file, and waits until the disk has it; says whether it could.
 fn fill_file<F: Write + OpenFile + Drop>(
     mut file: F,
     mode: Option<Permissions>,
     bytes: &[u8],
-) -> io::Result<()> {
-    if let Some(mode) = mode {
-        file.set_permissions(mode)?;
-    }
-    file.write_all(bytes)?;
-    file.sync_all()
+) -> bool {
+    let ready = match mode {
+        Some(mode) => file.set_permissions(mode).is_ok(),
+        None => true,
+    };
+    ready && file.write_all(bytes).is_ok() && file.sync_all().is_ok()
 }
 
 // Writes a file beside the name and renames it over that; after a fault it takes that file away,
@@ -134,15 +143,28 @@ fn replace_file<R: rt::Files>(
     ensures { result ≡ Err TooLong → ⊥ }
 {
     let (beside, file) = create_beside(rt, alloc, name)?;
-    let mut written = fill_file(file, mode, bytes);
-    if written.is_ok() {
-        written = fs::rename(rt, beside.as_str(), name);
+    if fill_file(file, mode, bytes) && fs::rename(rt, beside.as_str(), name).is_ok() {
+        return Ok(());
     }
-    if written.is_err() {
-        let _ = fs::remove_file(rt, beside.as_str());
-        return Err(FileFault::Failed);
+    let _ = fs::remove_file(rt, beside.as_str());
+    Err(FileFault::Failed)
+}
+
+// Replaces a file through a link to it.
+fn replace_linked<R: rt::Files>(
+    rt: &R,
+    alloc: Global,
+    name: &str,
+    mode: Permissions,
+    bytes: &[u8],
+) -> Result<(), FileFault>
+    ensures { result ≡ Err TooLong → ⊥ }
+{
+    match rt.canonicalize(alloc, name) {
+        Ok(path) => replace_file(rt, alloc, path.as_str(), Some(mode), bytes),
+        Err(e) if e.kind() == ErrorKind::OutOfMemory => Err(FileFault::OutOfMemory),
+        Err(_) => Err(FileFault::Failed),
     }
-    Ok(())
 }
 
 // Writes a file: through a link to the file that it names, and to a device or a pipe in place.
@@ -157,17 +179,13 @@ fn write_file<R: rt::Files>(
     let Ok(found) = fs::metadata(rt, name) else {
         return replace_file(rt, alloc, name, None, bytes);
     };
-    if !found.is_file() {
-        return match fs::write(rt, name, bytes) {
-            Ok(()) => Ok(()),
-            Err(_) => Err(FileFault::Failed),
-        };
+    if found.is_file() {
+        return replace_linked(rt, alloc, name, found.permissions(), bytes);
     }
-    match rt.canonicalize(alloc, name) {
-        Ok(path) => replace_file(rt, alloc, path.as_str(), Some(found.permissions()), bytes),
-        Err(e) if e.kind() == ErrorKind::OutOfMemory => Err(FileFault::OutOfMemory),
-        Err(_) => Err(FileFault::Failed),
+    if fs::write(rt, name, bytes).is_err() {
+        return Err(FileFault::Failed);
     }
+    Ok(())
 }
 
 impl<R: rt::Files> Files for StdFiles<'_, R> {
@@ -184,29 +202,17 @@ impl<R: rt::Files> Files for StdFiles<'_, R> {
         let Ok(kept) = String::from_str(self.alloc, name) else {
             return Err(FileFault::OutOfMemory);
         };
-        match read_file(self.rt, self.alloc, name, limit) {
-            Ok(bytes) => Ok(bytes),
-            Err(FileFault::TooLong) => Err(FileFault::TooLong),
-            Err(FileFault::OutOfMemory) => Err(FileFault::OutOfMemory),
-            Err(FileFault::Failed) => {
-                self.failures.raise(FileKind::Read, kept);
-                Err(FileFault::Failed)
-            }
-        }
+        let found = read_file(self.rt, self.alloc, name, limit);
+        self.failures.note(FileKind::Read, kept, &found);
+        found
     }
 
     fn write(&mut self, name: &str, bytes: &[u8]) -> Result<(), FileFault> {
         let Ok(kept) = String::from_str(self.alloc, name) else {
             return Err(FileFault::OutOfMemory);
         };
-        match write_file(self.rt, self.alloc, name, bytes) {
-            Ok(()) => Ok(()),
-            Err(FileFault::TooLong) => Err(FileFault::TooLong),
-            Err(FileFault::OutOfMemory) => Err(FileFault::OutOfMemory),
-            Err(FileFault::Failed) => {
-                self.failures.raise(FileKind::Write, kept);
-                Err(FileFault::Failed)
-            }
-        }
+        let written = write_file(self.rt, self.alloc, name, bytes);
+        self.failures.note(FileKind::Write, kept, &written);
+        written
     }
 }

@@ -1,5 +1,5 @@
 //! The real streams. What they hold isn't told.
-ghost use Rattle.std.specs.Prelude.{◌≡◌, ◌≤◌, None};
+ghost use Rattle.std.specs.Prelude.{None};
 
 use crate::{Duplex, Failed, Sink, Source};
 use std::io;

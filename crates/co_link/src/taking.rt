@@ -1,5 +1,5 @@
 //! Taking into a buffer that grows.
-ghost use Rattle.std.specs.Prelude.{◌≡◌, ◌≤◌, ◌<◌, length, take, vec_len, OnOk};
+ghost use Rattle.std.specs.Prelude.{◌≡◌, ◌≤◌, ◌<◌, take, vec_len, OnOk};
 ghost use Rattle.co_link.specs.Causes.{HasCause, FaultCause};
 ghost use Rattle.co_link.specs.Taken.{TakesInto, TakesUpTo};
 ghost use Rattle.co_link.specs.declared.taking.TakeFault.TheVariants.{Failed as TakeFailed};

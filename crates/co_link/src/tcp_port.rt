@@ -1,5 +1,5 @@
 //! The real port. What its connections hold isn't told.
-ghost use Rattle.std.specs.Prelude.{◌≡◌, ◌≤◌, ℕ, None};
+ghost use Rattle.std.specs.Prelude.{ℕ, None};
 ghost use Rattle.co_link.specs.Ports.{PortTells};
 ghost use Rattle.co_link.specs.TcpPort.{calls_told};
 
@@ -8,7 +8,7 @@ use std::io::{Read, Write};
 use std::net::{Ipv4Addr, Net, OpenListener, OpenStream, TcpListener};
 
 // How a port was called, and what that left.
-#[derive(Clone, Copy, Debug)]
+#[derive(Clone, Copy)]
 struct PortCalls {
     listening: bool,
     listens: u64,

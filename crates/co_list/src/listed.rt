@@ -1,5 +1,5 @@
 //! Items in a row.
-ghost use Rattle.std.specs.Prelude.{◌≡◌, ◌≤◌, ◌++◌, ◌↔◌, [], ◌∷◌, length, vec_capacity, IfOk, OnErr, OnOk, IsTrue};
+ghost use Rattle.std.specs.Prelude.{◌≡◌, ◌++◌, ◌↔◌, [], ◌∷◌, length, IfOk, OnErr, OnOk, IsTrue};
 
 use std::alloc::{AllocError, Global};
 use std::marker::Model;

@@ -75,9 +75,3 @@ residues_below m n f xs p h k l = subst (λ (v : ℕ). v < m) (sym (h.each k (om
 pub record AreFilled (n i : ℕ) (f : ℕ → ℕ) (xs : List ℕ) : Type 0 where
   pub len : length xs ≡ n
   pub done : (k : ℕ) → k < i → get_or xs k 0 ≡ f k
-
-pub one_filled : (n i x : ℕ) (f : ℕ → ℕ) (xs ys : List ℕ) → AreFilled n i f xs → i < n → x ≡ f i → ys ≡ set xs i x → AreFilled n (i + 1) f ys
-one_filled n i x f xs ys h l e w = subst (AreFilled n (i + 1) f) (sym w) (record { len = grind (arith, elements); done = grind (arith, elements) })
-
-pub none_filled : (n : ℕ) (f : ℕ → ℕ) (xs : List ℕ) → length xs ≡ n → AreFilled n 0 f xs
-none_filled n f xs e = record { len = e; done = λ k l. absurd (omega arith) }

@@ -18,7 +18,6 @@ pub mod Noise
 pub mod Geometric
 pub mod Threes
 pub mod Diagonals
-pub mod Exponents
 pub mod Meanings
 pub mod Switched
 pub mod Flips

@@ -1,5 +1,5 @@
 -- Laws of sums over 0..n.
-use Rattle.std.proofs.Common.{◌≡◌, ℕ, zero, suc, ◌+◌, ◌*◌, ◌-◌, ◌<◌, ◌≢◌, refl, sym, ap, ⊎_elim, cond, eqb, ◌∙◌, arith, ℤ, pos, ◌+ℤ◌, ◌*ℤ◌}
+use Rattle.std.proofs.Common.{◌≡◌, ℕ, zero, suc, ◌+◌, ◌*◌, ◌<◌, ◌≢◌, refl, sym, ap, ⊎_elim, cond, eqb, ◌∙◌, arith, ℤ, pos, ◌+ℤ◌, ◌*ℤ◌}
 use lib.IntN.{neg_ℤ}
 use Rattle.std.proofs.lemmas.Bool.{cases_eq}
 use Rattle.std.proofs.lemmas.Bool.Decides.{nat_tests}
@@ -54,17 +54,6 @@ unfolding total
 total-first zero f = omega (arith, linear)
 total-first (suc n) f = omega (arith, linear, total-first n f)
 
-pub total-reverse : (n : ℕ) (f : ℕ → ℤ) → total n (λ i. f (n - suc i)) ≡ total n f
-unfolding total
-total-reverse zero f = refl
-total-reverse (suc n) f =
-    total-first n (λ i. f (suc n - suc i))
-    ∙ (λ t. f (first t) +ℤ (total-same n (λ i. f (suc n - suc (suc i))) (λ i. f (n - suc i)) (λ i l. ap f (omega arith)) ∙ total-reverse n f) t)
-    ∙ omega (arith, linear)
-  where
-    first : suc n - 1 ≡ n
-    first = omega arith
-
 -- only the place k counts
 pub total-single : (n : ℕ) (f : ℕ → ℤ) (k : ℕ) → k < n → ((i : ℕ) → i < n → i ≢ k → f i ≡ pos 0) → total n f ≡ f k
 unfolding total
@@ -84,15 +73,6 @@ unfolding total
 total-blocks zero n f = let e : zero * n ≡ zero = omega arith in ap (λ k. total k f) e
 total-blocks (suc m) n f = let e : suc m * n ≡ m * n + n = omega arith in
     ap (λ k. total k f) e ∙ total-append (m * n) n f ∙ ap (λ t. t +ℤ total n (λ j. f (m * n + j))) (total-blocks m n f)
-
--- the even and the odd places
-pub total-halves : (n : ℕ) (f : ℕ → ℤ) → total (2 * n) f ≡ total n (λ i. f (2 * i)) +ℤ total n (λ i. f (2 * i + 1))
-unfolding total
-total-halves zero f = refl
-total-halves (suc n) f =
-    let e : 2 * suc n ≡ suc (suc (2 * n)) = omega arith in
-    let o : 2 * n + 1 ≡ suc (2 * n) = omega arith in
-    ap (λ k. total k f) e ∙ omega (arith, linear, total-halves n f, ap f o)
 
 -- σ is a permutation of 0..n, with the inverse τ
 pub record Permutes (n : ℕ) (σ τ : ℕ → ℕ) : Type 0 where

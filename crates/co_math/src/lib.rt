@@ -6,12 +6,18 @@
 //! `proofs` has the laws: of sums (split, shift, reverse, exchange, re-index), of the ring
 //! (product, substitution, bounds), of roots and values, and that contracts on lists of
 //! residues have one list.
-//! `parameters` has the numbers as constants; `laws` facts of numbers as contracts.
+//! The numbers of the scheme are constants, each here alone; `laws` has facts of numbers as
+//! contracts.
 //! Not here: any type of the scheme (co_ring and above).
 #![tactic(auto)]
 
 pub mod laws;
-pub mod parameters;
+mod parameters;
 mod sizes;
 
+pub use parameters::{
+    CIPHER_MODULUS, DIGIT_BASE, DIGIT_BITS, DIGIT_COUNT, ERROR_BOUND, FIRST_MODULUS,
+    INVERSE_OF_FIRST, LEAST_DEGREE, LEAST_EXPONENT, MOST_DEGREE, MOST_EXPONENT, PLAIN_MODULUS,
+    SECOND_MODULUS,
+};
 pub use sizes::{is_degree, log2_up};

@@ -10,7 +10,7 @@ use Rattle.co_switch.specs.Keys.{Keys}
 use Rattle.co_switch.specs.Steps.{raised, HasRisen}
 use Rattle.co_switch.proofs.Rising.{raised-zero, raised-raised, risen, risen_more}
 use Rattle.co_rot.specs.Rotations.{rotation}
-use Rattle.co_rot.specs.Subtrees.{crown_bits, subtree_bits, crown_of, IsRoot}
+use Rattle.co_rot.specs.Subtrees.{crown_bits, subtree_bits, crown_of}
 use Rattle.co_rot.proofs.Rotated.{AreRotationKeys, rotation-degree}
 use Rattle.co_rot.proofs.Keyed.{rotation_keys_are, read_as}
 use Rattle.co_rot.proofs.Crowns.{crown-read, length-crown, root-below}
@@ -99,6 +99,3 @@ module _ (w : WeightMatrix) (keys : Keys) (query roots : List Ciphertext) (h : C
       ap ciphertext_degree (r.each unit l)
       ∙ rotation-degree w.degree (length keys.rotations) keys set (ciphertext_at query k) (h.ciphers k no_ciphertext u) (h.query_degree k no_ciphertext u)
       (unit % 2 ^ crown_bits keys * 2 ^ subtree_bits keys) (root-below keys h.key_set (unit % 2 ^ crown_bits keys) place.place)
-
-  pub root-is : IsRoot keys (unit % 2 ^ crown_bits keys * 2 ^ subtree_bits keys)
-  root-is = record { subtree = unit % 2 ^ crown_bits keys; within = place.place; is = λ i. unit % 2 ^ crown_bits keys * 2 ^ subtree_bits keys }

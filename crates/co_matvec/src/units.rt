@@ -1,7 +1,6 @@
 //! What a worker adds, rotation by rotation.
 
 ghost use Rattle.std.specs.Prelude.{◌≡◌, ◌/◌, ◌<◌, length, All, IfOk, OnOk};
-ghost use Rattle.co_math.specs.Coefficients.{IsDegree};
 ghost use Rattle.co_math.specs.Polynomials.{unit};
 ghost use Rattle.co_rns.specs.Spectra.{IsSpectrumOf, spectrum_degree};
 ghost use Rattle.co_bfv.specs.Ciphertexts.{Ciphertext, ciphertext_degree};

@@ -8,8 +8,7 @@ ghost use Rattle.co_noise.specs.Shapes.{is_degree, is_within};
 ghost use Rattle.co_noise.specs.Bounds as bounds;
 
 use crate::shape::Shape;
-use co_math::log2_up;
-use co_math::parameters::{CIPHER_MODULUS, DIGIT_BASE, DIGIT_COUNT, ERROR_BOUND, PLAIN_MODULUS};
+use co_math::{CIPHER_MODULUS, DIGIT_BASE, DIGIT_COUNT, ERROR_BOUND, PLAIN_MODULUS, log2_up};
 
 /// The greatest absolute value of a centred number modulo t.
 const PLAIN_HALF: u128 = PLAIN_MODULUS as u128 / 2;

@@ -11,11 +11,14 @@
 
 mod bounds;
 pub mod laws;
-pub mod limits;
+mod limits;
 mod shape;
 mod testing;
 
 pub use bounds::{fresh_bound, modulus, retrieve_bound, score_bound, switch_bound};
 pub use co_math::{is_degree, log2_up};
+pub use limits::{
+    MOST_BIN_BYTES, MOST_BINS, MOST_CHUNKS, MOST_DOCUMENTS, MOST_HITS, MOST_ROWS, MOST_TERMS,
+};
 pub use shape::{Shape, is_chunk_count};
 pub use testing::{TestFault, Tested, test};

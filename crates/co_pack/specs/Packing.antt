@@ -1,4 +1,5 @@
--- Where documents stand in bins.
+-- Where documents stand in bins: first fit decreasing (D. Johnson: Near-optimal bin packing
+-- algorithms, 1973).
 use Rattle.std.specs.Prelude.{◌≡◌, ◌+◌, ◌*◌, ◌<◌, ◌≤◌, ◌==◌, ◌⊎◌, ℕ, List, length, take, map, slice_index, slice_index_or, sum_by, if◌then◌else◌}
 use Rattle.std.specs.List.{range_with_len}
 use Rattle.std.specs.List.Sorted.{IsPermutation}

@@ -6,10 +6,10 @@
 //! is scanned in vain at most once for each document that it takes. With D documents and B bins a
 //! packing costs at most D * ceil(B / 256) looks at bounds and about 1,000 * D looks at bins.
 
-ghost use Rattle.std.specs.Prelude.{◌≡◌, ◌+◌, ◌*◌, ◌/◌, ◌<◌, ◌≤◌, ◌++◌, ◌^◌, ℕ, List, [], ◌∷◌, length, slice_index, slice_index_or, slice_set, IfOk, MatchOption, IfSome, map};
+ghost use Rattle.std.specs.Prelude.{◌≡◌, ◌+◌, ◌*◌, ◌/◌, ◌<◌, ◌≤◌, ◌++◌, ◌^◌, ℕ, List, [], ◌∷◌, length, slice_index, slice_index_or, IfOk, MatchOption, IfSome, map};
 ghost use Rattle.std.specs.List.{All, range_with_len};
 ghost use Rattle.std.specs.List.Sorted.{IsPermutation, IsSorted};
-ghost use Rattle.co_pack.specs.Packing.{IsBinSize, load, IsNext, IsFirstFit, IsPacked, IsBinCount, IsEarlier, key_cmp, no_place};
+ghost use Rattle.co_pack.specs.Packing.{IsBinSize, IsNext, IsFirstFit, IsPacked, IsBinCount, IsEarlier, key_cmp, no_place};
 ghost use Rattle.co_pack.specs.Rooms.{IsTopped, IsRoom, IsOpened};
 
 use co_list::Listed;

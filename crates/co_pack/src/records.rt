@@ -1,9 +1,8 @@
 //! The 256 bytes of a record: which document, where its text stands, and its title.
 
-ghost use Rattle.std.specs.Prelude.{◌≡◌, ◌+◌, ◌≤◌, ◌<◌, ℕ, List, IfSome, Ok, Err, length, take, drop, IfOk, if◌then◌else◌};
+ghost use Rattle.std.specs.Prelude.{◌≡◌, ◌+◌, ◌≤◌, ◌<◌, IfSome, Ok, Err, length, take, drop, IfOk, if◌then◌else◌};
 ghost use Rattle.std.specs.List.{position};
 ghost use Rattle.std.specs.Int.{w32, to_be_bytes};
-ghost use Rattle.co_text.specs.Titles.{IsTitle};
 ghost use Rattle.co_pack.specs.Records.{number_at, record_bytes, record_of, is_text, is_set, title_within, IsRecord};
 ghost use Rattle.co_pack.specs.RecordFaults.{IsReadAs};
 

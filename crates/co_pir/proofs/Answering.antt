@@ -4,15 +4,16 @@ use Rattle.std.specs.Prelude.{◌==◌, if◌then◌else◌}
 use Rattle.std.specs.Int.{div_ceil}
 use Rattle.std.proofs.lemmas.Bool.{cases_eq}
 use Rattle.std.proofs.lemmas.Grind.{div_ceil_times}
-use Rattle.std.proofs.Math.Nat.{mul-le-mul_left, mul-le-mul_right}
+use Rattle.std.proofs.Math.Nat.{mod-lt, mul-le-mul_left, mul-le-mul_right}
+use Rattle.std.proofs.lemmas.Nat.{div_below}
 use Rattle.std.proofs.lemmas.Bool.Decides.{nat_tests}
 use Rattle.std.proofs.lemmas.List.{ext_get_or, length-set, get_or-set_other, get_or-set_same}
 use Rattle.std.proofs.lemmas.List.Elements.{All-from_get_or}
 use Rattle.co_math.specs.Parameters.{q}
 use Rattle.co_math.specs.Coefficients.{coefficients, IsDegree, residues_of}
-use Rattle.co_bfv.specs.Ciphertexts.{Ciphertext, ciphertext_degree, ciphertext_sum, zero_ciphertext, plain_product}
+use Rattle.co_bfv.specs.Ciphertexts.{Ciphertext, ciphertext_sum, zero_ciphertext, plain_product}
 use Rattle.co_bfv.specs.Totals.{no_ciphertext, ciphertext_at, IsOfDegree, ciphertext_total}
-use Rattle.co_bfv.proofs.Totals.{total_of_totals, ciphertext_total-zero, ciphertext_total-suc, ciphertext_total-degree, ciphertext_total-IsOfDegree, ciphertext_sum-zero, ciphertext_sum-IsOfDegree}
+use Rattle.co_bfv.proofs.Totals.{total_of_totals, ciphertext_total-zero, ciphertext_total-suc, ciphertext_total-IsOfDegree, ciphertext_sum-zero, ciphertext_sum-IsOfDegree}
 use Rattle.co_board.specs.Once.{sum_below}
 use Rattle.co_board.proofs.Counts.{sum_below-constant}
 use Rattle.co_switch.specs.Steps.{raised, HasRisen}
@@ -154,12 +155,16 @@ unit_added t cs us unit before after d h added =
 pub piece_inside : (rows piece : ℕ) → piece < div_ceil rows 64 → piece * 64 < rows
 piece_inside rows piece l = let h = (div_ceil_times rows 64 (omega arith)).1 in let more : (piece + 1) * 64 ≤ div_ceil rows 64 * 64 = mul-le-mul_right 64 (omega arith) in omega arith
 
+-- a unit is of a chunk and of a piece that there are
+pub chunk_inside : (t : Table) (unit p : ℕ) → p ≡ pieces t → 0 < p → unit < unit_count t → unit / p < t.chunks
+chunk_inside t unit p is some within = div_below unit p t.chunks some (subst (λ (k : ℕ). unit < t.chunks * k) (sym is) within)
+
+pub mod_inside : (t : Table) (unit p : ℕ) → p ≡ pieces t → 0 < p → unit % p < pieces t
+mod_inside t unit p is some = subst (λ (k : ℕ). unit % p < k) is (mod-lt unit some)
+
 -- a row of a piece is a row
 pub row_inside : (rows piece count j : ℕ) → piece < div_ceil rows 64 → count ≡ min 64 (rows - piece * 64) → j < count → piece * 64 + j < rows
 row_inside rows piece count j l e u = let h = piece_inside rows piece l in omega arith
-
-pub zeros-degree : (n : ℕ) (cs : List Ciphertext) → All (λ c. c ≡ zero_ciphertext n) cs → All (λ c. ciphertext_degree c ≡ n) cs
-zeros-degree n cs zeros k d l = ap ciphertext_degree (zeros k d l ∙ sym (ciphertext_total-zero n (λ j. no_ciphertext))) ∙ ciphertext_total-degree n 0 (λ j. no_ciphertext)
 
 -- units can be numbered by 32 bits
 pub units_fit : (chunks pieces : ℕ) → chunks ≤ 2097152 → pieces ≤ 64 → chunks * pieces ≤ 2 ^ 32

@@ -4,9 +4,8 @@ use Rattle.std.proofs.lemmas.Bool.{cases_lt}
 use Rattle.std.proofs.lemmas.List.{get_or_append_left}
 use Rattle.std.proofs.lemmas.Nat.{div-mul-add, mod-mul-add}
 use Rattle.std.proofs.Math.Seq.{get_or-append_seam}
-use Rattle.std.specs.Prelude.{All}
 use Rattle.co_rns.specs.Spectra.{PairValues}
-use Rattle.co_spectra.specs.Values.{CipherValues, AreCipherValues, AreOfDegree}
+use Rattle.co_spectra.specs.Values.{CipherValues, AreCipherValues}
 use Rattle.co_bfv.specs.Ciphertexts.{Ciphertext}
 use Rattle.co_pir.specs.Kept.{ArePayloadValues, AreRowValues, IsPayloadOf}
 use Rattle.co_pir.specs.Tables.{Table}
@@ -43,11 +42,3 @@ payload-found t values row chunk v d h l u e =
     (subst (λ (c : ℕ). IsPayloadOf t row c (get_or values (chunk * t.rows + row) d)) (div-mul-add chunk t.rows row l)
     (subst (λ (r : ℕ). IsPayloadOf t r ((chunk * t.rows + row) / t.rows) (get_or values (chunk * t.rows + row) d)) (mod-mul-add chunk t.rows row l)
     (h.each (chunk * t.rows + row) d (omega (arith, room, l)))))
-
--- the values of a ciphertext of degree n are n for each part
-pub row-degrees : (n count : ℕ) (cs : List Ciphertext) (values : List CipherValues) → AreRowValues n count cs values → All (AreOfDegree n) values
-row-degrees n count cs values h i d l =
-    let v = h.each i d (subst (λ (k : ℕ). i < k) h.len l) in
-    let x = v.c0.first_values in
-    let y = v.c1.first_values in
-    record { c0 = x.len; c1 = y.len }

@@ -1,6 +1,6 @@
 //! Sums of products of spectra, value by value, that are reduced once.
 
-ghost use Rattle.std.specs.Prelude.{◌≡◌, ◌<◌, ◌≤◌, ◌+◌, ℕ, [], ◌∷◌, length, slice_index, IfOk};
+ghost use Rattle.std.specs.Prelude.{◌≡◌, ◌<◌, ◌≤◌, ◌+◌, [], ◌∷◌, length, IfOk};
 ghost use Rattle.co_ring.specs.Moduli.{value_of};
 ghost use Rattle.co_ring.specs.Product_sums.{AreReduced, IsNoSum, IsSumWith, IsSumWithAll, most_products};
 

@@ -2,7 +2,7 @@
 use Rattle.std.proofs.Common.{◌≡◌, ℕ, zero, suc, ◌+◌, ◌*◌, ◌<◌, refl, sym, ap, subst, ◌∙◌, arith, ℤ, pos, ◌+ℤ◌, ◌-ℤ◌, ◌*ℤ◌, List, [], ◌∷◌, length, get_or}
 use Rattle.co_math.specs.Residues.{residue, Congruent}
 use Rattle.co_math.specs.Coefficients.{AreResidues}
-use Rattle.co_math.proofs.Integers.{linear, expand, mul_assoc, mul-one}
+use Rattle.co_math.proofs.Integers.{linear, expand, mul-one}
 use Rattle.co_math.proofs.Residues.{cong-refl, cong_from, cong-trans, cong-add, cong-mul, residue-is, residue-lt, residue-same}
 use Rattle.co_math.proofs.Residue_pairs.{cong-both, inverse}
 use Rattle.co_math.proofs.Reduced.{reduced_as, residue_of}
@@ -11,12 +11,6 @@ use Rattle.co_math.specs.Parameters.{first_modulus, inverse_of_first, q, second_
 
 pub both : {x y : ℤ} → Congruent first_modulus x y → Congruent second_modulus x y → Congruent q x y
 both c d = cong-both first_modulus second_modulus (pos inverse_of_first) inverse c d
-
-pub of_first : {x y : ℤ} → Congruent q x y → Congruent first_modulus x y
-of_first {x} {y} c = record { times = c.times *ℤ pos second_modulus; same = c.same ∙ ap (λ t. y +ℤ t) (sym (mul_assoc c.times (pos second_modulus) (pos first_modulus))) }
-
-pub of_second : {x y : ℤ} → Congruent q x y → Congruent second_modulus x y
-of_second {x} {y} c = record { times = c.times *ℤ pos first_modulus; same = c.same ∙ ap (λ t. y +ℤ t) (sym (mul_assoc c.times (pos first_modulus) (pos second_modulus))) }
 
 pub composed-first : (a b : ℕ) → Congruent first_modulus (pos (composed a b)) (pos a)
 unfolding composed

@@ -1,34 +1,11 @@
 -- What a list of numbers modulo q tells of its residues modulo q1 and q2, and they of it.
-use Rattle.std.proofs.Common.{◌≡◌, ℕ, ◌+◌, ◌%◌, ◌<◌, sym, ap, subst, ◌∙◌, ⊎_elim, arith, ℤ, pos, List, [], ◌∷◌, ◌++◌, length, get_or}
+use Rattle.std.proofs.Common.{◌≡◌, ℕ, ◌+◌, ◌<◌, sym, ap, subst, ◌∙◌, ⊎_elim, arith, List, [], ◌∷◌, ◌++◌, length, get_or}
 use Rattle.std.proofs.lemmas.Bool.{cases_eq}
 use Rattle.std.proofs.lemmas.Grind.{elements}
-use Rattle.co_math.specs.Parameters.{first_modulus, second_modulus, q}
-use Rattle.co_math.specs.Residues.{residue, Congruent}
-use Rattle.co_math.specs.Coefficients.{AreBelow, AreResidues, IsDegree}
-use Rattle.co_math.proofs.Residues.{cong-sym, cong-trans}
-use Rattle.co_math.proofs.Reduced.{reduced_as, residue_of}
-use Rattle.co_math.proofs.Powers.{mod-is}
+use Rattle.co_math.specs.Coefficients.{IsDegree}
 use Rattle.co_ring.specs.declared.moduli.Modulus.{Modulus}
 use Rattle.co_ring.specs.Moduli.{value_of}
 use Rattle.co_ring.specs.Polynomials.{IsPolynomial}
-use Rattle.co_rns.specs.Residue_pairs.{AreResiduesOf}
-use Rattle.co_rns.proofs.Composing.{both}
-
--- a list whose residues are those of f modulo both is that of f modulo q
-pub whole_residues : (n : ℕ) (f : ℤ → ℤ) (cs xs ys : List ℕ) → AreBelow q cs → AreResiduesOf first_modulus cs xs → AreResiduesOf second_modulus cs ys
-    → AreResidues first_modulus n f xs → AreResidues second_modulus n f ys → AreResidues q n f cs
-whole_residues n f cs xs ys b r s h i = record {
-  len = sym r.len ∙ h.len;
-  each = λ k u.
-      let v : k < length cs = omega (arith, r.len, h.len) in
-      let c = get_or cs k 0 in
-      reduced_as q c (f (pos k)) (b k v)
-      (both (near first_modulus c (get_or xs k 0) (f (pos k)) (omega arith) (r.each k v) (h.each k u))
-      (near second_modulus c (get_or ys k 0) (f (pos k)) (omega arith) (s.each k v) (i.each k u)));
-}
-  where
-    near : (m c x : ℕ) (z : ℤ) → 0 < m → x ≡ c % m → x ≡ residue m z → Congruent m (pos c) z
-    near m c x z p e g = cong-trans m (cong-sym m (mod-is m c p)) (residue_of m (c % m) z p (sym e ∙ g))
 
 -- numbers that are filled in one by one
 pub record AreNumbers (f : ℕ → ℕ) (k : ℕ) (xs : List ℕ) : Type 0 where

@@ -11,7 +11,7 @@ ghost use Rattle.co_ring.specs.Polynomials.{degree_of, IsPoly};
 ghost use Rattle.co_rns.specs.Residue_pairs.{composed, all_composed, AreResiduesOf, AreDigits};
 ghost use Rattle.co_rns.specs.Residue_pairs.{centred_coefficients};
 
-use co_math::parameters::{
+use co_math::{
     DIGIT_BASE, DIGIT_BITS, FIRST_MODULUS, INVERSE_OF_FIRST, PLAIN_MODULUS, SECOND_MODULUS,
 };
 use co_ring::{Degree, Modulus, Poly, multiply_by, subtract};

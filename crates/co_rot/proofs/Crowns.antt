@@ -37,9 +37,6 @@ one_root keys query before = record {
 
 -- a root, by its number among the subtrees
 module _ (keys : Keys) (a : AreKeys keys) (r : ℕ) (u : r < 2 ^ crown_bits keys) where
-  w : ℕ
-  w = subtree_bits keys
-
   here : IsSubtree keys (subtree_bits keys) (r * 2 ^ subtree_bits keys)
   here = from_root keys (r * 2 ^ subtree_bits keys) a (record { subtree = r; within = u; is = refl })
 

@@ -1,5 +1,5 @@
 -- Rotations one from another, and what they mean, by a set of keys.
-use Rattle.std.proofs.Common.{◌≡◌, ℕ, ◌*◌, ◌/◌, ◌^◌, ◌<◌, sym, subst, arith, length}
+use Rattle.std.proofs.Common.{◌≡◌, ℕ, ◌*◌, ◌/◌, ◌^◌, ◌<◌, subst, arith, length}
 use Rattle.co_bfv.specs.Ciphertexts.{Ciphertext, IsCiphertext, ciphertext_degree}
 use Rattle.co_switch.specs.Keys.{Keys, AreKeys, keys_degree, rotation_key, no_key}
 use Rattle.co_switch.specs.Switches.{switched}

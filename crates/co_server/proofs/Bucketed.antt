@@ -1,10 +1,8 @@
 -- The tables of a library.
 use Rattle.std.proofs.Common.{◌≡◌, ℕ, ◌*◌, ◌<◌, ◌≤◌, sym, ap, subst, ◌∙◌, arith, List, [], length, get_or, Result}
 use Rattle.std.specs.Prelude.{IfOk}
-use Rattle.std.proofs.Math.Nat.{div-le_self}
 use Rattle.std.proofs.lemmas.List.FromFn.{length-map-range_with_len}
 use Rattle.co_bucket.specs.Lists.{bucket_count, listed, lists_of}
-use Rattle.co_bucket.specs.Bytes.{record_chunks}
 use Rattle.co_bucket.proofs.Standing.{list_at}
 use Rattle.co_pir.specs.Tables.{Table, IsTable}
 use Rattle.co_library.specs.Libraries.{Parts}
@@ -38,9 +36,6 @@ list_is l lists bucket list e b f = f ∙ ap (λ (ls : List (List ℕ)). get_or 
 pub list_there : (l : Parts) (lists : List (List ℕ)) (bucket : ℕ) → lists ≡ lists_of l.shape.salt (bucket_count l.shape.hits) l.shape.documents → bucket < bucket_count l.shape.hits → bucket < length lists
 list_there l lists bucket e b =
     subst (λ (k : ℕ). bucket < k) (sym (ap (λ (ls : List (List ℕ)). length ls) e ∙ length-map-range_with_len (listed l.shape.salt (bucket_count l.shape.hits) l.shape.documents) 0 (bucket_count l.shape.hits))) b
-
-pub chunks-short : (n : ℕ) → record_chunks n ≤ 2097152
-chunks-short n = let few = div-le_self 128 n in omega (arith, few)
 
 -- a result that is one value is an equal one
 pub renamed : {X E : Type 0} (r : Result X E) (a b : X) → a ≡ b → IfOk r (λ t. t ≡ a) → IfOk r (λ t. t ≡ b)

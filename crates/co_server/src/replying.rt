@@ -1,14 +1,12 @@
 //! Replies under a client's keys.
 
-ghost use Rattle.std.specs.Prelude.{◌≡◌, ◌≢◌, ◌≤◌, ◌<◌, ℕ, List, Option, Some, None, true, length, map, IfOk, IfErr, OnOk};
-ghost use Rattle.std.specs.List.{flat_map, range_with_len};
+ghost use Rattle.std.specs.Prelude.{◌≡◌, ◌≤◌, ◌<◌, Option, Some, None, true, IfOk, IfErr};
 ghost use Rattle.co_switch.specs.Keys.{Keys};
-ghost use Rattle.co_bfv.specs.Ciphertexts.{Ciphertext, ciphertext_degree};
-ghost use Rattle.co_bfv.specs.Totals.{ciphertext_at};
+ghost use Rattle.co_bfv.specs.Ciphertexts.{ciphertext_degree};
 ghost use Rattle.co_pir.specs.Replies.{retrieved};
 ghost use Rattle.co_wire.specs.Bodies.{AreCiphers, SpellsCiphers};
 ghost use Rattle.co_bucket.specs.Lists.{bucket_count};
-ghost use Rattle.co_rounds.specs.Serving.{bucket_table, bin_table, gathered};
+ghost use Rattle.co_rounds.specs.Serving.{bucket_table, gathered};
 ghost use Rattle.co_link.specs.declared.messages.Target.TheVariants as targets;
 ghost use Rattle.co_wire.specs.BadBodies.{IsBadBody};
 ghost use Rattle.co_wire.specs.Bodies.{AreKeysFor};

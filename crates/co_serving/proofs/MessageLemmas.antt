@@ -90,11 +90,6 @@ message_answered wanted steps s t (Some input) (Some rest) left request reply ne
     let a = next.1 in
     (rest, λ stays. refl, replied a.head request.target request.body reply a.reads a.taken a.known a.whole step refl)
 
--- no message
-pub message_ended : {S : Type 0} (wanted : S → Target → ℕ) (steps : S → Request → Reply → S → Type 0) (s : S) (old new left : Option (List ℕ)) (ended : Ended)
-    → ReadsNext (wanted s) old new left (Err ended) → ReadsMessage wanted steps s s old new left (Err ended)
-message_ended wanted steps s old new left ended next = (next.0, refl, next.1)
-
 -- what a call met, where its result is known
 pub next_at : (wanted : Target → ℕ) (old new left : Option (List ℕ)) (result known : Result Message Ended) → result ≡ known → ReadsNext wanted old new left result → ReadsNext wanted old new left known
 next_at wanted old new left result known is next = let P : Result Message Ended → Type 0 = ReadsNext wanted old new left in subst P is next

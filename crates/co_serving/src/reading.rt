@@ -2,9 +2,9 @@
 ghost use Rattle.std.specs.Prelude.{◌≡◌, ◌≤◌, None, Err, IfOk, IfSome, IsTrue, false};
 ghost use Rattle.co_http.specs.Responses.{is_status};
 ghost use Rattle.co_link.specs.Causes.{Rose};
-ghost use Rattle.co_http.specs.Conn.{held, unread, kept, cannot_write};
+ghost use Rattle.co_http.specs.Conn.{unread, kept, cannot_write};
 ghost use Rattle.co_http.specs.Targets.{verb_for};
-ghost use Rattle.co_serving.specs.Conversation.{closes, status_of, is_same, wrong_length, length_refusal, method_refusal, refusal};
+ghost use Rattle.co_serving.specs.Conversation.{closes, status_of, is_same, wrong_length, method_refusal, refusal};
 ghost use Rattle.co_serving.specs.Reading.{ReadsRequest, ReadsNext, ReadsMessage, MayAnswer, KeepsNone};
 ghost use Rattle.co_serving.specs.declared.ended.Ended.TheVariants.{ReadFault};
 ghost use Rattle.co_serving.specs.declared.message.Message.TheVariants as messages;

@@ -1,5 +1,5 @@
 //! Serving one connection.
-ghost use Rattle.std.specs.Prelude.{◌≡◌, ◌≤◌, ◌<◌, ◌+◌, ℕ, None, Err, Some, false, true, IsTrue, IfOk, IfSome, length};
+ghost use Rattle.std.specs.Prelude.{◌≡◌, ◌≤◌, ◌<◌, ◌+◌, None, Err, Some, false, true, IsTrue, IfOk, IfSome, length};
 ghost use Rattle.co_link.specs.Causes.{Rose};
 ghost use Rattle.co_http.specs.Conn.{held, unread, kept, cannot_write, first_fault};
 ghost use Rattle.co_http.specs.ShortText.{text_of};

@@ -1,18 +1,17 @@
 -- Sums, products and substitutions of polynomials, slot by slot.
-use Rattle.std.proofs.Common.{◌≡◌, ℕ, ◌+◌, ◌*◌, ◌-◌, ◌%◌, ◌/◌, ◌<◌, refl, sym, ap, subst, ◌∙◌, arith, ℤ, pos, negsuc, ◌+ℤ◌, ◌-ℤ◌, ◌*ℤ◌, List, length, get_or}
+use Rattle.std.proofs.Common.{◌≡◌, ℕ, ◌+◌, ◌*◌, ◌-◌, ◌%◌, ◌/◌, ◌<◌, refl, sym, ap, subst, ◌∙◌, arith, ℤ, pos, negsuc, ◌+ℤ◌, ◌*ℤ◌, List, length, get_or}
 use Rattle.std.proofs.Math.Nat.{div-add-mod', mod-lt}
 use lib.IntN.{neg_ℤ}
 use Rattle.co_math.specs.Parameters.{plain_modulus}
 use Rattle.co_math.specs.Residues.{residue, Congruent}
 use Rattle.co_math.specs.Powers.{power, root}
-use Rattle.co_math.specs.Polynomials.{IsWrapped, product, plus, minus, substituted}
+use Rattle.co_math.specs.Polynomials.{IsWrapped, product, plus, substituted}
 use Rattle.co_math.specs.Values.{value, value_at}
 use Rattle.co_math.specs.Coefficients.{coefficients, AreBelow, AreResidues, IsDegree, IsSubstituted}
 use Rattle.co_math.proofs.Integers.{linear, expand, mul-one}
 use Rattle.co_math.proofs.Residues.{cong-refl, cong_from, cong-sym, cong-trans, cong-add, cong-neg, cong-mul, cong-total, residue-is, residue-lt, residue-same, residue_small}
 use Rattle.co_math.proofs.Reduced.{remainder-is, residue_of}
 use Rattle.co_math.proofs.Powers.{power-add, power-mul, power-congruent, power-one}
-use Rattle.co_math.proofs.Totals.{total-same, total-add, total-neg}
 use Rattle.co_math.proofs.Geometric.{minus_odd}
 use Rattle.co_math.proofs.Values.{value-congruent}
 use Rattle.co_math.proofs.Evaluations.{value-product}
@@ -25,6 +24,7 @@ use Rattle.co_math.proofs.Agreements.{Agree}
 use Rattle.co_math.proofs.Orders.{coarser, three-odd}
 use Rattle.co_math.proofs.Terms.{coefficient-low}
 use Rattle.co_ring.specs.declared.moduli.Modulus.TheVariants.{Plain}
+use Rattle.co_ring.proofs.Orderings.{values_add}
 use Rattle.co_ring.proofs.Rooted.{root_minus}
 use Rattle.co_ring.proofs.Ordered.{powers_return}
 use Rattle.co_slots.specs.Slots.{exponent_of, slot, AreSlots}
@@ -78,19 +78,6 @@ value-point : (m n : ℕ) (a : ℤ → ℤ) {x y : ℤ} → Congruent m x y → 
 unfolding value_at value
 value-point m n a {x} {y} c = cong-total m n (λ j. a (pos j) *ℤ power x j) (λ j. a (pos j) *ℤ power y j) (λ j l. cong-mul m (cong-refl m (a (pos j))) (power-congruent m c j))
 
-pub value-plus : (n : ℕ) (a b : ℤ → ℤ) (x : ℤ) → value_at n (plus a b) x ≡ value_at n a x +ℤ value_at n b x
-unfolding value_at value plus
-value-plus n a b x =
-    total-same n (λ j. (a (pos j) +ℤ b (pos j)) *ℤ power x j) (λ j. a (pos j) *ℤ power x j +ℤ b (pos j) *ℤ power x j) (λ j l. simp expand)
-    ∙ total-add n (λ j. a (pos j) *ℤ power x j) (λ j. b (pos j) *ℤ power x j)
-
-pub value-minus : (n : ℕ) (a b : ℤ → ℤ) (x : ℤ) → value_at n (minus a b) x ≡ value_at n a x -ℤ value_at n b x
-unfolding value_at value minus
-value-minus n a b x =
-    total-same n (λ j. (a (pos j) -ℤ b (pos j)) *ℤ power x j) (λ j. a (pos j) *ℤ power x j +ℤ neg_ℤ (b (pos j) *ℤ power x j)) (λ j l. simp expand)
-    ∙ total-add n (λ j. a (pos j) *ℤ power x j) (λ j. neg_ℤ (b (pos j) *ℤ power x j))
-    ∙ ap (λ t. value_at n a x +ℤ t) (total-neg n (λ j. b (pos j) *ℤ power x j))
-
 -- the slots of a sum, a difference and a product
 pub slot-plus : (xs ys zs : List ℕ) (p : ℕ) → length ys ≡ length xs → AreResidues plain_modulus (length xs) (plus (coefficients xs) (coefficients ys)) zs
     → slot zs p ≡ (slot xs p + slot ys p) % plain_modulus
@@ -100,18 +87,8 @@ slot-plus xs ys zs p e h =
     let x = point n p in
     slot_by n zs p (pos (slot xs p + slot ys p)) h.len
     (cong-trans t (value_of_residues t n (plus (coefficients xs) (coefficients ys)) zs x (omega arith) h)
-    (cong-trans t (cong_from t (value-plus n (coefficients xs) (coefficients ys) x)) (cong-add t (cong-sym t (slot_value n xs p refl)) (cong-sym t (slot_value n ys p e)))))
+    (cong-trans t (cong_from t (values_add n (coefficients xs) (coefficients ys) x)) (cong-add t (cong-sym t (slot_value n xs p refl)) (cong-sym t (slot_value n ys p e)))))
     ∙ sym (remainder-is t (slot xs p + slot ys p))
-
-pub slot-minus : (xs ys zs : List ℕ) (p : ℕ) → length ys ≡ length xs → AreResidues plain_modulus (length xs) (minus (coefficients xs) (coefficients ys)) zs
-    → slot zs p ≡ residue plain_modulus (pos (slot xs p) -ℤ pos (slot ys p))
-slot-minus xs ys zs p e h =
-    let n = length xs in
-    let t = plain_modulus in
-    let x = point n p in
-    slot_by n zs p (pos (slot xs p) -ℤ pos (slot ys p)) h.len
-    (cong-trans t (value_of_residues t n (minus (coefficients xs) (coefficients ys)) zs x (omega arith) h)
-    (cong-trans t (cong_from t (value-minus n (coefficients xs) (coefficients ys) x)) (cong-add t (cong-sym t (slot_value n xs p refl)) (cong-neg t (cong-sym t (slot_value n ys p e))))))
 
 pub slot-product : (xs ys zs : List ℕ) (p : ℕ) → IsDegree (length xs) → length ys ≡ length xs → AreResidues plain_modulus (length xs) (product (length xs) (coefficients xs) (coefficients ys)) zs
     → slot zs p ≡ slot xs p * slot ys p % plain_modulus

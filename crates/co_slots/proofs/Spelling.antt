@@ -1,6 +1,5 @@
 -- Payloads so far.
-use Rattle.std.proofs.Common.{◌≡◌, ℕ, ◌+◌, ◌*◌, ◌%◌, ◌/◌, ◌<◌, ◌≢◌, sym, subst, ◌∙◌, ⊎_elim, arith, List, [], ◌∷◌, ◌++◌, length, get_or}
-use Rattle.std.proofs.lemmas.Grind.{elements}
+use Rattle.std.proofs.Common.{◌≡◌, ℕ, ◌+◌, ◌*◌, ◌%◌, ◌/◌, ◌<◌, ◌≢◌, sym, subst, ◌∙◌, ⊎_elim, arith, List, length, get_or}
 use Rattle.std.proofs.lemmas.List.{ext_get_or}
 use Rattle.std.proofs.lemmas.Bool.{cases_lt}
 use Rattle.co_slots.specs.Payloads.{IsPayload}
@@ -8,15 +7,6 @@ use Rattle.co_slots.specs.Payloads.{IsPayload}
 pub record IsPayloadSoFar (i : ℕ) (bytes coeffs : List ℕ) : Type 0 where
   pub each : (k : ℕ) → k < i → get_or coeffs k 0 ≡ 256 * get_or bytes (2 * k) 0 + get_or bytes (2 * k + 1) 0
   pub before : (k : ℕ) → k < i → get_or coeffs k 0 ≢ 65536
-
-front : (i a b j : ℕ) (bytes : List ℕ) → length bytes ≡ 2 * i → j < 2 * i → get_or ((bytes ++ a ∷ []) ++ b ∷ []) j 0 ≡ get_or bytes j 0
-front i a b j bytes e l = grind (arith, elements)
-
-high : (i a b : ℕ) (bytes : List ℕ) → length bytes ≡ 2 * i → get_or ((bytes ++ a ∷ []) ++ b ∷ []) (2 * i) 0 ≡ a
-high i a b bytes e = grind (arith, elements)
-
-low : (i a b : ℕ) (bytes : List ℕ) → length bytes ≡ 2 * i → get_or ((bytes ++ a ∷ []) ++ b ∷ []) (2 * i + 1) 0 ≡ b
-low i a b bytes e = grind (arith, elements)
 
 -- two bytes are known from their coefficient
 two_bytes : (c a b x y : ℕ) → c ≡ 256 * a + b → c ≡ 256 * x + y → b < 256 → y < 256 → (a ≡ x) × (b ≡ y)

@@ -1,4 +1,5 @@
--- Slots: values of a polynomial modulo t at powers of its root.
+-- Slots: values of a polynomial modulo t at powers of its root (N. Smart, F. Vercauteren: Fully
+-- homomorphic SIMD operations, 2014).
 use Rattle.std.specs.Prelude.{ℕ, ℤ, pos, neg_ℤ, ◌-◌, ◌*◌, ◌/◌, ◌<◌, ◌≡◌, ◌^◌, List, length, slice_index, nat_lt, if◌then◌else◌}
 use Rattle.co_math.specs.Residues.{residue}
 use Rattle.co_math.specs.Powers.{power, root}

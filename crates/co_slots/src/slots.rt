@@ -1,9 +1,8 @@
 //! Slots, by the transform modulo t.
 
-ghost use Rattle.std.specs.Prelude.{◌≡◌, ◌+◌, ◌*◌, ◌/◌, ◌<◌, ◌≤◌, ◌^◌, ℕ, length, slice_index, pos};
+ghost use Rattle.std.specs.Prelude.{◌≡◌, ◌*◌, ◌/◌, ◌<◌, ℕ, length};
 ghost use Rattle.std.specs.Prelude.{IfOk};
 ghost use Rattle.co_math.specs.Parameters.{plain_modulus};
-ghost use Rattle.co_math.specs.Exponents.{bit_reversal};
 ghost use Rattle.co_math.specs.Coefficients.{AreBelow, IsDegree};
 ghost use Rattle.co_ring.specs.Polynomials.{degree_of};
 ghost use Rattle.co_slots.specs.Slots.{exponent_of, AreScattered, AreSlots, ArePlaces};

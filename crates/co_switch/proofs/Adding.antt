@@ -1,9 +1,10 @@
 -- The steps of a switch.
 use Rattle.std.proofs.Common.{◌≡◌, ℕ, ◌+◌, ◌<◌, refl, sym, ap, subst, ◌∙◌, arith, ℤ, pos, ◌+ℤ◌, List, [], ◌∷◌, length, get_or, add-one}
+use Rattle.rand_core.specs.Stream.{Stream}
 use Rattle.co_math.specs.Parameters.{q, digit_base, digit_count}
 use Rattle.co_math.specs.Residues.{Congruent}
 use Rattle.co_math.specs.Sums.{total}
-use Rattle.co_math.specs.Coefficients.{coefficients, AreResidues, IsDegree, residues_of}
+use Rattle.co_math.specs.Coefficients.{coefficients, AreResidues, IsDegree, residues_of, signed_coefficients}
 use Rattle.co_math.specs.Polynomials.{IsWrapped, product, plus, minus, substitution}
 use Rattle.co_math.proofs.Residues.{cong-refl, cong_from, cong-trans, cong-add, cong-neg}
 use Rattle.co_math.proofs.Reduced.{residue_of}
@@ -13,6 +14,7 @@ use Rattle.co_math.proofs.Places.{coefficients-IsWrapped}
 use Rattle.co_rns.specs.Residue_pairs.{AreDigits}
 use Rattle.co_math.proofs.Degrees.{degree_positive}
 use Rattle.co_math.proofs.Residue_lists.{residues_of-is, length-residues_of, residues_of-same, residues_of-at}
+use Rattle.co_bfv.specs.Draws.{uniform_draw, error_draw}
 use Rattle.co_bfv.specs.Ciphertexts.{Ciphertext, IsCiphertext, ciphertext_degree}
 use Rattle.co_switch.specs.Keys.{Key, AreSpectra, part}
 use Rattle.co_rns.specs.Spectra.{PairValues, PairSums, IsSpectrumOf, IsNoPairSum, IsPairSumWith, IsPairSumWithAll, IsPairSumOf}
@@ -91,12 +93,12 @@ pub gathered_all : (n i : ℕ) (xs : List ℕ) (values : List PairValues) (s : P
 unfolding digits_to digit_sum
 gathered_all n i xs values s ks h e v = subst (λ (m : ℕ). IsPairSumOf n (digits_to m xs ks) s) e (h.sums ks v)
 
+pub image-degree : (g : ℕ) (xs image : List ℕ) → image ≡ automorphism g xs → length image ≡ length xs
+unfolding automorphism
+image-degree g xs image e = ap length e ∙ length-residues_of q (length xs) (substitution (length xs) g (coefficients xs))
+
 -- both parts of a switch
 module _ (key : Key) (c : Ciphertext) (whole : IsCiphertext c) where
-  pub image-degree : (xs image : List ℕ) → image ≡ automorphism key.element xs → length image ≡ length xs
-  unfolding automorphism
-  image-degree xs image e = ap length e ∙ length-residues_of q (length xs) (substitution (length xs) key.element (coefficients xs))
-
   image-at : (c₀ : List ℕ) (k : ℕ) → c₀ ≡ automorphism key.element c.c0 → k < length c.c0 → Congruent q (coefficients c₀ (pos k)) (substitution (length c.c0) key.element (coefficients c.c0) (pos k))
   unfolding automorphism
   image-at c₀ k e l = residues_of-at q (length c.c0) (substitution (length c.c0) key.element (coefficients c.c0)) c₀ k (omega arith) e l
@@ -117,7 +119,7 @@ module _ (key : Key) (c : Ciphertext) (whole : IsCiphertext c) where
       part₀ : new ≡ residues_of q m (plus (substitution m key.element (coefficients c.c0)) (digit_sum (automorphism key.element c.c1) key.k0))
       part₀ =
           residues_of-is q (length c₀) (plus (coefficients c₀) (coefficients first)) new r
-          ∙ ap (λ l. residues_of q l (plus (coefficients c₀) (coefficients first))) (image-degree c.c0 c₀ a)
+          ∙ ap (λ l. residues_of q l (plus (coefficients c₀) (coefficients first))) (image-degree key.element c.c0 c₀ a)
           ∙ residues_of-same q m (plus (coefficients c₀) (coefficients first)) (plus (substitution m key.element (coefficients c.c0)) (digit_sum (automorphism key.element c.c1) key.k0)) (omega arith)
           (λ k l. cong-add q (image-at c₀ k a l) (residues_of-at q m (digit_sum (automorphism key.element c.c1) key.k0) first k (omega arith) first_is l))
 
@@ -125,19 +127,31 @@ module _ (key : Key) (c : Ciphertext) (whole : IsCiphertext c) where
 pub residues-at : (m n : ℕ) (f : ℤ → ℤ) (xs : List ℕ) (k : ℕ) → 0 < m → AreResidues m n f xs → k < n → Congruent m (coefficients xs (pos k)) (f (pos k))
 residues-at m n f xs k p h l = cong-trans m (cong_from m (coefficient-low xs k (omega (arith, h.len)))) (residue_of m (get_or xs k 0) (f (pos k)) p (h.each k l))
 
--- e - a * s + hidden, step by step
-pub pair_is : (n : ℕ) (e : ℤ → ℤ) (a secret hidden sum p r₁ r₂ : List ℕ) → sum ≡ residues_of q n e → length a ≡ n
-    → AreResidues q (length a) (product (length a) (coefficients a) (coefficients secret)) p → AreResidues q (length sum) (minus (coefficients sum) (coefficients p)) r₁
-    → AreResidues q (length r₁) (plus (coefficients r₁) (coefficients hidden)) r₂
-    → r₂ ≡ residues_of q n (plus (minus e (product n (coefficients a) (coefficients secret))) (coefficients hidden))
+-- e - f + hidden, step by step
+pub pair_is : (n : ℕ) (e f : ℤ → ℤ) (hidden sum p r₁ r₂ : List ℕ) → sum ≡ residues_of q n e → p ≡ residues_of q n f
+    → AreResidues q (length sum) (minus (coefficients sum) (coefficients p)) r₁ → AreResidues q (length r₁) (plus (coefficients r₁) (coefficients hidden)) r₂
+    → r₂ ≡ residues_of q n (plus (minus e f) (coefficients hidden))
 unfolding plus minus
-pair_is n e a secret hidden sum p r₁ r₂ is la hp h₁ h₂ =
+pair_is n e f hidden sum p r₁ r₂ is has h₁ h₂ =
     residues_of-is q (length r₁) (plus (coefficients r₁) (coefficients hidden)) r₂ h₂
     ∙ ap (λ m. residues_of q m (plus (coefficients r₁) (coefficients hidden))) (h₁.len ∙ len)
-    ∙ residues_of-same q n (plus (coefficients r₁) (coefficients hidden)) (plus (minus e (product n (coefficients a) (coefficients secret))) (coefficients hidden)) (omega arith)
+    ∙ residues_of-same q n (plus (coefficients r₁) (coefficients hidden)) (plus (minus e f) (coefficients hidden)) (omega arith)
     (λ k l. cong-add q (cong-trans q (residues-at q (length sum) (minus (coefficients sum) (coefficients p)) r₁ k (omega arith) h₁ (omega (arith, len)))
-    (cong-add q (residues_of-at q n e sum k (omega arith) is l) (cong-neg q (cong-trans q (residues-at q (length a) (product (length a) (coefficients a) (coefficients secret)) p k (omega arith) hp (omega arith))
-    (cong_from q (ap (λ m. product m (coefficients a) (coefficients secret) (pos k)) la)))))) (cong-refl q (coefficients hidden (pos k))))
+    (cong-add q (residues_of-at q n e sum k (omega arith) is l) (cong-neg q (residues_of-at q n f p k (omega arith) has l)))) (cong-refl q (coefficients hidden (pos k))))
   where
     len : length sum ≡ n
     len = ap length is ∙ length-residues_of q n e
+
+-- the same, by a drawn polynomial and the rest of the stream
+pub drawn_pair : (n m : ℕ) (s now : Stream) (secret : List ℤ) (hidden x y pair : List ℕ) → y ≡ x → x ≡ (uniform_draw m s).0 → now ≡ (uniform_draw m s).1 → m ≡ n
+    → pair ≡ residues_of q n (plus (minus (signed_coefficients (error_draw n now).0) (product n (coefficients y) (signed_coefficients secret))) (coefficients hidden))
+    → pair ≡ residues_of q n (plus (minus (signed_coefficients (error_draw n (uniform_draw n s).1).0) (product n (coefficients (uniform_draw n s).0) (signed_coefficients secret))) (coefficients hidden))
+drawn_pair n m s now secret hidden x y pair r e f i h =
+    h
+    ∙ (λ t. residues_of q n (plus (minus (signed_coefficients (error_draw n (rest t)).0) (product n (coefficients (uniform t)) (signed_coefficients secret))) (coefficients hidden)))
+  where
+    uniform : y ≡ (uniform_draw n s).0
+    uniform = r ∙ e ∙ ap (λ k. (uniform_draw k s).0) i
+
+    rest : now ≡ (uniform_draw n s).1
+    rest = f ∙ ap (λ k. (uniform_draw k s).1) i

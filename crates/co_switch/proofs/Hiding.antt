@@ -14,11 +14,10 @@ use Rattle.co_math.specs.Coefficients.{coefficients, AreBelow, AreResidues, IsDe
 use Rattle.co_math.specs.Polynomials.{IsWrapped, product, plus, minus, scaled, substituted, substitution}
 use Rattle.co_math.specs.Meanings.{centred, phase}
 use Rattle.co_math.proofs.Integers.{linear, expand, mul_assoc}
-use Rattle.co_math.proofs.Residues.{cong-refl, cong_from, cong-trans, cong-sym, cong-add, cong-neg, cong-mul}
+use Rattle.co_math.proofs.Residues.{cong-refl, cong_from, cong-trans, cong-sym, cong-add, cong-mul}
 use Rattle.co_math.proofs.Meanings.{centred-least}
 use Rattle.co_math.proofs.Polynomials.{product-IsWrapped}
 use Rattle.co_math.proofs.Places.{coefficients-IsWrapped}
-use Rattle.co_math.proofs.Agreements.{Agree, product_agree}
 use Rattle.co_bfv.specs.Draws.{uniform_draw, error_draw}
 use Rattle.co_rns.specs.Pairs.{IsWhole}
 use Rattle.co_math.proofs.Degrees.{degree_positive}
@@ -28,7 +27,8 @@ use Rattle.co_switch.specs.Keys.{Key, IsKey, IsGoodKey, part, key_degree}
 use Rattle.co_switch.specs.Switches.{automorphism}
 use Rattle.co_switch.specs.Draws.{hidden, pairs_draw, key_draw}
 use Rattle.co_math.proofs.Substituting.{Inverse, inverse_of, substitution-is, substitution-IsWrapped}
-use Rattle.co_switch.proofs.Drawing.{length-uniform, length-error, error-small, uniform-IsWhole}
+use Rattle.co_bfv.proofs.Drawn.{uniform-IsWhole}
+use Rattle.co_switch.proofs.Drawing.{length-uniform, length-error, error-small}
 
 length-hidden : (secret : List ℤ) (g j : ℕ) (a : List ℕ) (e : List ℤ) → length (hidden secret g j a e) ≡ length secret
 unfolding hidden
@@ -228,17 +228,16 @@ hidden_more n i f xs ys e h =
         let next : digit_base * digit_base ^ i ≡ digit_base ^ (i + 1) = omega (arith, ap (λ m. digit_base ^ m) (add-one i) ∙ pow-suc digit_base i) in
         sym (mul_assoc (pos digit_base) (pos (digit_base ^ i)) x) ∙ ap (λ (m : ℕ). pos m *ℤ x) next
 
-pub one_made : (secret : List ℤ) (g i : ℕ) (start now later : Stream) (k0 k1 l0 l1 : List (List ℕ)) (whole hid first second more : List ℕ) → IsDegree (length secret) → g % 2 ≡ 1
-    → IsMade secret g i start now k0 k1 hid → whole ≡ residues_of q (length secret) (signed_coefficients secret)
-    → second ≡ (uniform_draw (length whole) now).0
-    → first ≡ residues_of q (length whole) (plus (minus (signed_coefficients (error_draw (length whole) (uniform_draw (length whole) now).1).0) (product (length whole) (coefficients second) (coefficients whole))) (coefficients hid))
-    → later ≡ (error_draw (length whole) (uniform_draw (length whole) now).1).1
+pub one_made : (secret : List ℤ) (g i : ℕ) (start now later : Stream) (k0 k1 l0 l1 : List (List ℕ)) (hid first second more : List ℕ)
+    → IsMade secret g i start now k0 k1 hid → second ≡ (uniform_draw (length secret) now).0
+    → first ≡ residues_of q (length secret) (plus (minus (signed_coefficients (error_draw (length secret) (uniform_draw (length secret) now).1).0) (product (length secret) (coefficients second) (signed_coefficients secret))) (coefficients hid))
+    → later ≡ (error_draw (length secret) (uniform_draw (length secret) now).1).1
     → l0 ≡ k0 ++ first ∷ [] → l1 ≡ k1 ++ second ∷ [] → AreResidues q (length hid) (scaled (pos digit_base) (coefficients hid)) more
     → IsMade secret g (i + 1) start later l0 l1 more
 unfolding pairs_draw hidden plus minus scaled
-one_made secret g i start now later k0 k1 l0 l1 whole hid first second more d odd made ew e₁ e₀ es f₀ f₁ h = record {
+one_made secret g i start now later k0 k1 l0 l1 hid first second more made e₁ e₀ es f₀ f₁ h = record {
   drawn =
-      (λ t. (record { element = g; k0 = (f₀ ∙ ap (λ x. k0 ++ x ∷ []) first_is) t; k1 = (f₁ ∙ ap (λ x. k1 ++ x ∷ []) second_is) t }, (es ∙ ap (λ m. (error_draw m (uniform_draw m now).1).1) len) t))
+      (λ t. (record { element = g; k0 = (f₀ ∙ ap (λ x. k0 ++ x ∷ []) first_is) t; k1 = (f₁ ∙ ap (λ x. k1 ++ x ∷ []) e₁) t }, es t))
       ∙ ap step made.drawn
       ∙ ap (λ m. pairs_draw secret g m start) (sym (add-one i));
   hides = hidden_more (length secret) i (substitution (length secret) g (signed_coefficients secret)) hid more made.hides h;
@@ -246,9 +245,6 @@ one_made secret g i start now later k0 k1 l0 l1 whole hid first second more d od
   where
     n : ℕ
     n = length secret
-
-    len : length whole ≡ n
-    len = ap length ew ∙ length-residues_of q n (signed_coefficients secret)
 
     a : List ℕ
     a = (uniform_draw n now).0
@@ -262,23 +258,15 @@ one_made secret g i start now later k0 k1 l0 l1 whole hid first second more d od
         let v = error_draw n u.1 in
         (record { element = g; k0 = p.0.k0 ++ hidden secret g i u.0 v.0 ∷ []; k1 = p.0.k1 ++ u.0 ∷ [] }, v.1)
 
-    second_is : second ≡ a
-    second_is = e₁ ∙ ap (λ m. (uniform_draw m now).0) len
-
-    agrees : Agree q (coefficients whole) (signed_coefficients secret)
-    agrees = subst (λ (xs : List ℕ). Agree q (coefficients xs) (signed_coefficients secret)) (sym ew) (residues_of-agree q n (signed_coefficients secret) (omega arith) (degree_positive n d) (signed-IsWrapped secret (degree_positive n d)))
+    masked : ℤ → ℤ
+    masked = minus (signed_coefficients e) (product n (coefficients a) (signed_coefficients secret))
 
     first_is : first ≡ hidden secret g i a e
     first_is =
         e₀
-        ∙ (λ t. residues_of q (len t) (plus (minus (signed_coefficients (error_draw (len t) (uniform_draw (len t) now).1).0) (product (len t) (coefficients (second_is t)) (coefficients whole))) (coefficients hid)))
-        ∙ residues_of-same q n (plus (minus (signed_coefficients e) (product n (coefficients a) (coefficients whole))) (coefficients hid))
-        (plus (minus (signed_coefficients e) (product n (coefficients a) (signed_coefficients secret))) (scaled (pos (digit_base ^ i)) (substitution n g (signed_coefficients secret)))) (omega arith)
-        (λ k l. cong-add q (cong-add q (cong-refl q (signed_coefficients e (pos k))) (cong-neg q (product_agree q n (coefficients a) (coefficients whole) (coefficients a) (signed_coefficients secret) (λ j. cong-refl q (coefficients a j)) agrees (pos k))))
-        (residues_of-at q n (scaled (pos (digit_base ^ i)) (substitution n g (signed_coefficients secret))) hid k (omega arith) made.hides l))
-
-pub length-made : {secret : List ℤ} {g i : ℕ} {start now : Stream} {k0 k1 : List (List ℕ)} {hid : List ℕ} → IsMade secret g i start now k0 k1 hid → length hid ≡ length secret
-length-made {secret} {g} {i} h = ap length h.hides ∙ length-residues_of q (length secret) (scaled (pos (digit_base ^ i)) (substitution (length secret) g (signed_coefficients secret)))
+        ∙ (λ t. residues_of q n (plus (minus (signed_coefficients e) (product n (coefficients (e₁ t)) (signed_coefficients secret))) (coefficients hid)))
+        ∙ residues_of-same q n (plus masked (coefficients hid)) (plus masked (scaled (pos (digit_base ^ i)) (substitution n g (signed_coefficients secret)))) (omega arith)
+        (λ k l. cong-add q (cong-refl q (masked (pos k))) (residues_of-at q n (scaled (pos (digit_base ^ i)) (substitution n g (signed_coefficients secret))) hid k (omega arith) made.hides l))
 
 -- with all pairs it is the drawn key
 pub all_made : (secret : List ℤ) (g i : ℕ) (start now : Stream) (k0 k1 : List (List ℕ)) (hid : List ℕ) → IsMade secret g i start now k0 k1 hid → i ≡ digit_count

@@ -1,14 +1,14 @@
 -- Lists of drawn keys, and the set of them.
-use Rattle.std.proofs.Common.{◌≡◌, ℕ, zero, suc, ◌+◌, ◌*◌, ◌/◌, ◌%◌, ◌^◌, ◌<◌, ◌≤◌, refl, sym, ap, subst, ◌∙◌, arith, ℤ, List, [], ◌∷◌, ◌++◌, map, length, get_or, All, length-append, add-one}
+use Rattle.std.proofs.Common.{◌≡◌, ℕ, zero, suc, ◌+◌, ◌*◌, ◌/◌, ◌%◌, ◌^◌, ◌<◌, ◌≤◌, refl, sym, ap, subst, ◌∙◌, arith, ℤ, List, [], ◌∷◌, ◌++◌, map, length, All, length-append, add-one}
 use Rattle.std.specs.List.{range_with_len}
 use Rattle.std.proofs.lemmas.Nat.{pow_pos}
-use Rattle.std.proofs.lemmas.List.{map-append, get_or-map}
-use Rattle.std.proofs.lemmas.List.FromFn.{map-range_with_len_more, get_or-map-range_with_len}
-use Rattle.std.proofs.lemmas.List.Elements.{All-nil, All-push, All-get_or}
+use Rattle.std.proofs.lemmas.List.{map-append}
+use Rattle.std.proofs.lemmas.List.FromFn.{map-range_with_len_more}
+use Rattle.std.proofs.lemmas.List.Elements.{All-nil, All-push}
 use Rattle.rand_core.specs.Stream.{Stream}
 use Rattle.co_math.specs.Coefficients.{IsDegree, signed_coefficients}
 use Rattle.co_math.specs.Logarithms.{log2_up}
-use Rattle.co_switch.specs.Keys.{Key, Keys, IsKey, IsGoodKey, AreKeysOf, AreKeys, AreGoodKeys, key_degree, keys_degree, rotation_element, expansion_element, no_key}
+use Rattle.co_switch.specs.Keys.{Key, Keys, IsKey, IsGoodKey, AreKeysOf, AreKeys, AreGoodKeys, key_degree, keys_degree, rotation_element, expansion_element}
 use Rattle.co_switch.specs.Draws.{key_draw, keys_draw, key_set_draw}
 use Rattle.co_switch.proofs.Hiding.{degree-key_draw, element-key_draw, key_draw-IsKey, key_draw-good}
 use Rattle.co_switch.proofs.Elements.{Half, rotation_element-odd, rotation_element-lt, expansion_element-odd, expansion_element-lt}
@@ -112,16 +112,6 @@ module _ (secret : List ℤ) (d : IsDegree (length secret)) (levels : ℕ) (h : 
       record { rotations = a.count; expansions = b.count; degree = ap (λ m. 2 * 2 ^ m) (a.count ∙ h.log) ∙ sym h.is }
 
 -- ---- for callers: the keys of a set, one by one
-
-pub key-degree : (n : ℕ) (element : ℕ → ℕ) (keys : List Key) → AreKeysOf n element keys → (i : ℕ) → i < length keys → key_degree (get_or keys i no_key) ≡ n
-key-degree n element keys h i l = All-get_or (λ key. key_degree key ≡ n) keys i no_key l h.degree
-
-abbrev pub element_of : Key → ℕ
-element_of key = key.element
-
-pub key-element : (n : ℕ) (element : ℕ → ℕ) (keys : List Key) → AreKeysOf n element keys → (i : ℕ) → i < length keys → element_of (get_or keys i no_key) ≡ element i
-key-element n element keys h i l =
-    sym (get_or-map (λ key. key.element) keys i no_key 0 l) ∙ ap (λ xs. get_or xs i 0) h.elements ∙ get_or-map-range_with_len element 0 (length keys) i i 0 l (omega arith)
 
 -- both lists are the drawn set
 pub set_made : (secret : List ℤ) (levels count : ℕ) (start middle rest : Stream) (rotations expansions : List Key) → count ≡ levels

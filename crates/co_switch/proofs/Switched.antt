@@ -30,10 +30,6 @@ part-IsWrapped n ps z e h j l =
     let d = part-degree n ps j e h l in
     subst (λ (k : ℕ). IsWrapped k (coefficients (part ps j))) d (coefficients-IsWrapped (part ps j) (omega (arith, d)))
 
-pub length-automorphism : (g : ℕ) (xs : List ℕ) → length (automorphism g xs) ≡ length xs
-unfolding automorphism
-length-automorphism g xs = length-residues_of q (length xs) (substitution (length xs) g (coefficients xs))
-
 pub degree-switched : (key : Key) (c : Ciphertext) → ciphertext_degree (switched key c) ≡ ciphertext_degree c
 unfolding switched
 degree-switched key c = length-residues_of q (length c.c0) (plus (substitution (length c.c0) key.element (coefficients c.c0)) (digit_sum (automorphism key.element c.c1) key.k0))

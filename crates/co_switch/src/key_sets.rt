@@ -1,7 +1,7 @@
 //! The keys of a client.
 
 ghost use Rattle.std.specs.Prelude.{◌≡◌};
-ghost use Rattle.co_switch.specs.Keys.{AreKeys, keys_degree};
+ghost use Rattle.co_switch.specs.Keys.{AreKeys};
 
 use crate::keys::GaloisKey;
 use std::marker::Model;

@@ -1,8 +1,7 @@
 //! Keys for one Galois element.
 
-ghost use Rattle.std.specs.Prelude.{◌≡◌, ◌*◌, ◌%◌, ◌<◌, length, All, IfOk};
+ghost use Rattle.std.specs.Prelude.{◌≡◌, ◌<◌, length, All, IfOk};
 ghost use Rattle.co_math.specs.Parameters.{digit_count};
-ghost use Rattle.co_math.specs.Coefficients.{IsDegree};
 ghost use Rattle.co_switch.specs.Keys.{IsKey, AreSpectra, part, key_degree};
 
 use co_ring::Degree;
@@ -18,6 +17,12 @@ pub struct GaloisKey {
     element: u32,
     k0: Vec<Pair>,
     k1: Vec<Pair>,
+    kept: Kept,
+}
+
+/// The tables of the transforms for a key's degree, and the values of its polynomials.
+#[derive(Drop)]
+struct Kept {
     tables: Tables,
     values0: Vec<PairSpectrum>,
     values1: Vec<PairSpectrum>,
@@ -32,7 +37,7 @@ impl Model for GaloisKey {
 
     ghost invariant = { λ k. IsKept
         (record { element = k.element; k0 = k.k0.items; k1 = k.k1.items })
-        k.tables k.values0.items k.values1.items };
+        k.kept.tables k.kept.values0.items k.kept.values1.items };
 }
 
 // The values of polynomials of one degree.
@@ -54,6 +59,44 @@ fn spectra(
     Ok(values)
 }
 
+// What is kept with the pairs of a key.
+fn keep(alloc: Global, degree: Degree, k0: &[Pair], k1: &[Pair]) -> Result<Kept, AllocError>
+    requires k0_count { length k0.now ≡ digit_count }
+    requires k0_degree { All (λ p. length p ≡ degree) k0.now }
+    requires k1_count { length k1.now ≡ digit_count }
+    requires k1_degree { All (λ p. length p ≡ degree) k1.now }
+    ensures tables { IfOk result (λ kept. kept.tables ≡ degree) }
+    ensures values0 { IfOk result (λ kept. AreSpectra kept.tables k0.now kept.values0.items) }
+    ensures values1 { IfOk result (λ kept. AreSpectra kept.tables k1.now kept.values1.items) }
+{
+    let tables = Tables::new(alloc, degree)?;
+    let (values0, values1) = both_spectra(alloc, &tables, k0, k1)?;
+    Ok(Kept {
+        tables,
+        values0,
+        values1,
+    })
+}
+
+// The values of the polynomials of a key's pairs.
+fn both_spectra(
+    alloc: Global,
+    tables: &Tables,
+    k0: &[Pair],
+    k1: &[Pair],
+) -> Result<(Vec<PairSpectrum>, Vec<PairSpectrum>), AllocError>
+    requires k0_count { length k0.now ≡ digit_count }
+    requires k0_degree { All (λ p. length p ≡ tables.now) k0.now }
+    requires k1_count { length k1.now ≡ digit_count }
+    requires k1_degree { All (λ p. length p ≡ tables.now) k1.now }
+    ensures first { IfOk result (λ values. AreSpectra tables.now k0.now values.0.items) }
+    ensures second { IfOk result (λ values. AreSpectra tables.now k1.now values.1.items) }
+{
+    let values0 = spectra(alloc, tables, k0)?;
+    let values1 = spectra(alloc, tables, k1)?;
+    Ok((values0, values1))
+}
+
 impl GaloisKey {
     /// The key with these pairs.
     pub fn from_parts(
@@ -66,16 +109,12 @@ impl GaloisKey {
         ensures { IfOk result (λ key.
             key ≡ record { element = element; k0 = k0.items; k1 = k1.items }) }
     {
-        let tables = Tables::new(alloc, Degree::of(k0[0].degree()))?;
-        let values0 = spectra(alloc, &tables, &k0)?;
-        let values1 = spectra(alloc, &tables, &k1)?;
+        let kept = keep(alloc, Degree::of(k0[0].degree()), &k0, &k1)?;
         Ok(GaloisKey {
             element,
             k0,
             k1,
-            tables,
-            values0,
-            values1,
+            kept,
         })
     }
 
@@ -115,20 +154,20 @@ impl GaloisKey {
     pub(crate) fn tables(&self) -> &Tables
         ensures { result.now ≡ key_degree self.now }
     {
-        &self.tables
+        &self.kept.tables
     }
 
     /// The values of the first polynomials of its pairs.
     pub(crate) fn values0(&self) -> &[PairSpectrum]
         ensures { AreSpectra (key_degree self.now) self.now.k0 result.now }
     {
-        &self.values0
+        &self.kept.values0
     }
 
     /// The values of the second polynomials of its pairs.
     pub(crate) fn values1(&self) -> &[PairSpectrum]
         ensures { AreSpectra (key_degree self.now) self.now.k1 result.now }
     {
-        &self.values1
+        &self.kept.values1
     }
 }

@@ -1,6 +1,6 @@
 //! Sums of the products of digits and a key's polynomials, by values.
 
-ghost use Rattle.std.specs.Prelude.{ℕ, List, [], ◌∷◌, ◌≡◌, ◌<◌, ◌≤◌, ◌+◌, length, slice_index_or, IfOk};
+ghost use Rattle.std.specs.Prelude.{ℕ, ℤ, List, [], ◌∷◌, ◌≡◌, ◌<◌, ◌≤◌, ◌+◌, length, slice_index_or, IfOk};
 ghost use Rattle.co_math.specs.Parameters.{digit_count, q};
 ghost use Rattle.co_math.specs.Coefficients.{IsDegree, coefficients, residues_of};
 ghost use Rattle.co_ring.specs.Product_sums.{most_products};
@@ -8,7 +8,7 @@ ghost use Rattle.co_rns.specs.Spectra.{IsNoPairSum, IsPairSumOf, IsPairSumWithAl
 ghost use Rattle.co_switch.specs.Keys.{AreOfDegree, AreSpectra};
 ghost use Rattle.co_switch.specs.Switches.{digit_polynomial, digit_sum};
 
-use co_math::parameters::DIGIT_COUNT;
+use co_math::DIGIT_COUNT;
 use co_ring::Degree;
 use co_rns::{Decomposition, Pair, PairSpectrum, PairSum, Tables};
 use std::alloc::{AllocError, Global};
@@ -34,13 +34,59 @@ pub fn digit_sums(
     ensures second_degree { IfOk result (λ sums. length sums.1 ≡ tables.now) }
 {
     let _ = poly.degree();
-    let degree = tables.degree();
-    let mut room = digit_room(alloc, degree)?;
-    let (mut sum0, mut sum1) = no_sums(alloc, degree)?;
+    let mut room = digit_room(alloc, tables.degree())?;
     room.digits.set(poly);
-    gather_digits(&mut room, tables, &mut sum0, values0, &mut sum1, values1);
-    let first = sum0.polynomial(alloc, tables, &mut room.low)?;
-    let second = sum1.polynomial(alloc, tables, &mut room.low)?;
+    sums_of_room(alloc, tables, &mut room, values0, values1)
+}
+
+/// The sums over the digits in the room.
+fn sums_of_room(
+    alloc: Global,
+    tables: &Tables,
+    room: &mut DigitRoom,
+    values0: &[PairSpectrum],
+    values1: &[PairSpectrum],
+) -> Result<(Pair, Pair), AllocError>
+    requires degree { IsDegree tables.now }
+    requires digits_degree { length room.old.digits ≡ tables.now }
+    requires low_degree { spectrum_degree room.old.low ≡ tables.now }
+    requires middle_degree { spectrum_degree room.old.middle ≡ tables.now }
+    requires high_degree { spectrum_degree room.old.high ≡ tables.now }
+    requires values0 { AreOfDegree tables.now values0.now }
+    requires values1 { AreOfDegree tables.now values1.now }
+    ensures first { IfOk result (λ sums. (ks : List (List ℕ)) → AreSpectra tables.now ks values0.now
+        → sums.0 ≡ residues_of q tables.now (digit_sum room.old.digits ks)) }
+    ensures second { IfOk result (λ sums. (ks : List (List ℕ))
+        → AreSpectra tables.now ks values1.now
+        → sums.1 ≡ residues_of q tables.now (digit_sum room.old.digits ks)) }
+    ensures first_degree { IfOk result (λ sums. length sums.0 ≡ tables.now) }
+    ensures second_degree { IfOk result (λ sums. length sums.1 ≡ tables.now) }
+{
+    let (mut sum0, mut sum1) = no_sums(alloc, tables.degree())?;
+    gather_digits(room, tables, &mut sum0, values0, &mut sum1, values1);
+    polynomials(alloc, tables, &sum0, &sum1, &mut room.low)
+}
+
+/// The polynomials whose values two sums have. The room is scratch.
+fn polynomials(
+    alloc: Global,
+    tables: &Tables,
+    sum0: &PairSum,
+    sum1: &PairSum,
+    room: &mut PairSpectrum,
+) -> Result<(Pair, Pair), AllocError>
+    requires sum0_degree { length sum0.now.first ≡ tables.now }
+    requires sum1_degree { length sum1.now.first ≡ tables.now }
+    requires room_degree { spectrum_degree room.old ≡ tables.now }
+    ensures first { IfOk result (λ sums. (f : ℤ → ℤ) → IsPairSumOf tables.now f sum0.now
+        → sums.0 ≡ residues_of q tables.now f) }
+    ensures second { IfOk result (λ sums. (f : ℤ → ℤ) → IsPairSumOf tables.now f sum1.now
+        → sums.1 ≡ residues_of q tables.now f) }
+    ensures first_degree { IfOk result (λ sums. length sums.0 ≡ tables.now) }
+    ensures second_degree { IfOk result (λ sums. length sums.1 ≡ tables.now) }
+{
+    let first = sum0.polynomial(alloc, tables, room)?;
+    let second = sum1.polynomial(alloc, tables, room)?;
     Ok((first, second))
 }
 
@@ -60,12 +106,29 @@ fn digit_room(alloc: Global, degree: Degree) -> Result<DigitRoom, AllocError>
     ensures middle { IfOk result (λ room. spectrum_degree room.middle ≡ degree) }
     ensures high { IfOk result (λ room. spectrum_degree room.high ≡ degree) }
 {
+    let digits = Decomposition::zero(alloc, degree)?;
+    let (low, middle, high) = three_spectra(alloc, degree)?;
     Ok(DigitRoom {
-        digits: Decomposition::zero(alloc, degree)?,
-        low: PairSpectrum::zero(alloc, degree)?,
-        middle: PairSpectrum::zero(alloc, degree)?,
-        high: PairSpectrum::zero(alloc, degree)?,
+        digits,
+        low,
+        middle,
+        high,
     })
+}
+
+/// Room for the values of three polynomials.
+fn three_spectra(
+    alloc: Global,
+    degree: Degree,
+) -> Result<(PairSpectrum, PairSpectrum, PairSpectrum), AllocError>
+    ensures low { IfOk result (λ room. spectrum_degree room.0 ≡ degree) }
+    ensures middle { IfOk result (λ room. spectrum_degree room.1 ≡ degree) }
+    ensures high { IfOk result (λ room. spectrum_degree room.2 ≡ degree) }
+{
+    let low = PairSpectrum::zero(alloc, degree)?;
+    let middle = PairSpectrum::zero(alloc, degree)?;
+    let high = PairSpectrum::zero(alloc, degree)?;
+    Ok((low, middle, high))
 }
 
 /// Two sums of no products.

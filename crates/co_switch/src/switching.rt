@@ -2,12 +2,13 @@
 
 ghost use Rattle.std.specs.Prelude.{ℕ, ℤ, ◌≡◌, ◌+◌, ◌*◌, ◌%◌, ◌<◌, length, IfOk, OnOk, OnErr};
 ghost use Rattle.co_math.specs.Polynomials.{IsWrapped, substitution};
-ghost use Rattle.co_math.specs.Coefficients.{coefficients, residues_of};
+ghost use Rattle.co_math.specs.Coefficients.{residues_of};
+ghost use Rattle.co_math.specs.Parameters.{q};
 ghost use Rattle.co_math.specs.Bounds.{switch_bound};
 ghost use Rattle.co_bfv.specs.Ciphertexts.{MeansWithin, ciphertext_degree};
 ghost use Rattle.co_switch.specs.Keys.{IsGoodKey, key_degree};
 ghost use Rattle.co_switch.specs.Steps.{raised};
-ghost use Rattle.co_switch.specs.Switches.{automorphism, switched};
+ghost use Rattle.co_switch.specs.Switches.{automorphism, digit_sum, switched};
 
 use crate::keys::GaloisKey;
 use crate::products::digit_sums;
@@ -35,13 +36,35 @@ pub fn apply<L>(
     ensures no_step { OnErr result (steps.new ≡ steps.old) }
 {
     let _ = cipher.degree();
-    let element = key.element();
-    let mut c0 = substitute(alloc, cipher.c0(), element)?;
-    let image = substitute(alloc, cipher.c1(), element)?;
-    let (first, second) = digit_sums(alloc, key.tables(), &image, key.values0(), key.values1())?;
-    c0.add_in(&first);
+    let _ = key.element();
+    let switched = switch(alloc, cipher, key)?;
     steps.step();
+    Ok(switched)
+}
+
+// The ciphertext with X^g for X, under the same secret.
+fn switch(alloc: Global, cipher: &Cipher, key: &GaloisKey) -> Result<Cipher, AllocError>
+    requires { ciphertext_degree cipher.now ≡ key_degree key.now }
+    ensures { IfOk result (λ c. c ≡ switched key.now cipher.now) }
+{
+    let _ = cipher.degree();
+    let mut c0 = substitute(alloc, cipher.c0(), key.element())?;
+    let (first, second) = image_sums(alloc, cipher.c1(), key)?;
+    c0.add_in(&first);
     Ok(Cipher::from_parts(c0, second))
+}
+
+// The sums over the digits of the polynomial with X^g for X, for both polynomials of the key's
+// pairs.
+fn image_sums(alloc: Global, poly: &Pair, key: &GaloisKey) -> Result<(Pair, Pair), AllocError>
+    requires { length poly.now ≡ key_degree key.now }
+    ensures first { IfOk result (λ sums. sums.0 ≡ residues_of q (key_degree key.now)
+        (digit_sum (automorphism key.now.element poly.now) key.now.k0)) }
+    ensures second { IfOk result (λ sums. sums.1 ≡ residues_of q (key_degree key.now)
+        (digit_sum (automorphism key.now.element poly.now) key.now.k1)) }
+{
+    let image = substitute(alloc, poly, key.element())?;
+    digit_sums(alloc, key.tables(), &image, key.values0(), key.values1())
 }
 
 // The polynomial with X^g for X.

@@ -1,11 +1,11 @@
 -- Distinct terms, and the numbers of terms in a vocabulary.
-use Rattle.std.proofs.Common.{◌≡◌, ℕ, ◌+◌, ◌<◌, ◌≤◌, Bool, true, false, cond, not, eqb, ◌||◌, List, [], ◌∷◌, length, get_or, Option, Some, None, refl, sym, ap, ◌∙◌, arith, nat_lt, is_some}
-use Rattle.std.specs.Prelude.{All, slice_get, position, filter}
+use Rattle.std.proofs.Common.{◌≡◌, ℕ, ◌<◌, ◌≤◌, Bool, true, false, cond, not, eqb, ◌||◌, List, [], ◌∷◌, length, get_or, Option, Some, None, refl, sym, ap, ◌∙◌, arith, nat_lt, is_some}
+use Rattle.std.specs.Prelude.{All, slice_get, filter}
 use Rattle.std.specs.List.{list_any, position_or_len, IsDistinct, AllByRecursion, cons_option}
 use Rattle.std.specs.List.Sorted.{IsStrictlySortedBy}
 use Rattle.std.specs.Str.{bytes_eq}
 use Rattle.std.specs.Ordering.{nat_cmp}
-use Rattle.std.specs.Cmp.Lexicographic.{slice_cmp, bytes_decides, nat_list_eq_equiv}
+use Rattle.std.specs.Cmp.Lexicographic.{slice_cmp, bytes_decides}
 use Rattle.std.proofs.lemmas.Bool.{eqb-true, ltb-false, true≢false}
 use Rattle.std.proofs.lemmas.Option.{slice_get-get_or, slice_get_within}
 use Rattle.std.proofs.lemmas.Map.Keys.{IsDistinct-cons, IsDistinct-head, IsDistinct-tail, any_passes_from_place}
@@ -50,6 +50,19 @@ unfolding IsDistinct
 distinct_once [] = tt
 distinct_once (w ∷ ws) =
     IsDistinct-cons bytes_eq w (filter (λ u. not (bytes_eq w u)) (distinct ws)) (filter_apart w (distinct ws)) (filter_distinct (λ u. not (bytes_eq w u)) (distinct ws) (distinct_once ws))
+
+filter_others : (w : List ℕ) (xs : List (List ℕ)) → AllByRecursion (λ y. bytes_eq w y ≡ false) xs → filter (λ u. not (bytes_eq w u)) xs ≡ xs
+filter_others w [] h = refl
+filter_others w (x ∷ xs) h =
+    ap (λ (b : Bool). cond (not b) (x ∷ filter (λ u. not (bytes_eq w u)) xs) (filter (λ u. not (bytes_eq w u)) xs)) h.0 ∙ ap (λ ys. x ∷ ys) (filter_others w xs h.1)
+
+distinct_same : (ws : List (List ℕ)) → IsDistinct bytes_eq ws → distinct ws ≡ ws
+distinct_same [] h = refl
+distinct_same (w ∷ ws) h =
+    ap (λ us. w ∷ filter (λ u. not (bytes_eq w u)) us) (distinct_same ws (IsDistinct-tail bytes_eq w ws h)) ∙ ap (λ us. w ∷ us) (filter_others w ws (IsDistinct-head bytes_eq w ws h))
+
+pub distinct_again : (ws : List (List ℕ)) → distinct (distinct ws) ≡ distinct ws
+distinct_again ws = distinct_same (distinct ws) (distinct_once ws)
 
 without : (w t : List ℕ) (ws : List (List ℕ)) → list_any (bytes_eq w) (distinct ws) ≡ list_any (bytes_eq w) ws → (b : Bool) → bytes_eq w t ≡ b
     → (b || list_any (bytes_eq w) (filter (λ u. not (bytes_eq t u)) (distinct ws))) ≡ (b || list_any (bytes_eq w) ws)

@@ -1,5 +1,5 @@
 -- The ranking is the one list that its law describes.
-use Rattle.std.proofs.Common.{◌≡◌, ℕ, zero, suc, ◌+◌, ◌<◌, ◌≤◌, ◌==◌, min, Bool, true, false, cond, ◌||◌, List, [], ◌∷◌, ◌++◌, length, take, drop, refl, sym, ap, ◌∙◌, subst, arith, nat_lt, Some}
+use Rattle.std.proofs.Common.{◌≡◌, ℕ, zero, suc, ◌+◌, ◌<◌, ◌==◌, min, Bool, true, false, cond, ◌||◌, List, [], ◌∷◌, length, take, drop, refl, sym, ap, ◌∙◌, subst, arith, nat_lt, Some}
 use Rattle.std.specs.Prelude.{All, count_by, slice_get, fold, map}
 use Rattle.std.specs.List.{list_any, AllByRecursion, IsDistinct}
 use Rattle.std.specs.List.Sorted.{IsStrictlySortedBy}
@@ -219,10 +219,3 @@ pub kept_more : (most number s : ℕ) (old new : List (Reverse ℕ × ℕ)) (ss 
     → take most (fold (insert_key hit_cmp) (map shown new) (scored (number + 1) ss)) ≡ take most (fold (insert_key hit_cmp) (map shown old) (scored number (s ∷ ss)))
 kept_more most number s old new ss is =
     ap (λ ks. take most (fold (insert_key hit_cmp) (map shown ks) (scored (number + 1) ss))) is ∙ kept_at most number s old ss (nat_lt 0 s)
-
--- the front of a list that is one too long is all but its last
-pub without_last : {K : Type 0} (most : ℕ) (ks : List K) (k : K) → length ks ≡ most → take most (ks ++ k ∷ []) ≡ ks
-without_last zero [] k long = refl
-without_last zero (x ∷ xs) k long = absurd (omega (arith, long))
-without_last (suc most) [] k long = absurd (omega (arith, long))
-without_last (suc most) (x ∷ xs) k long = ap (λ l. x ∷ l) (without_last most xs k (omega (arith, long)))

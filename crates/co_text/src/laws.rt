@@ -10,12 +10,13 @@ ghost use Rattle.co_text.specs.Numbers.{number_of, numbers_of};
 ghost use Rattle.co_text.specs.Ranking.{ranking, IsRanking};
 ghost use Rattle.co_text.specs.declared.ranks.Ranked.{Ranked};
 
-/// The distinct terms of a list are its terms, each once.
+/// The distinct terms of a list are its terms, each once; so of distinct terms they are all.
 pub fn distinct_terms_stand_once()
     ensures once { (ts : List (List ℕ)) → IsDistinct bytes_eq (distinct ts) }
     ensures same { (ts : List (List ℕ)) (t : List ℕ) → list_any (bytes_eq t) (distinct ts)
         ≡ list_any (bytes_eq t) ts }
     ensures few { (ts : List (List ℕ)) → length (distinct ts) ≤ length ts }
+    ensures again { (ts : List (List ℕ)) → distinct (distinct ts) ≡ distinct ts }
 {}
 
 /// The number of a term in a vocabulary is its only place, and a term without a number isn't there.

@@ -5,7 +5,7 @@ use Rattle.std.proofs.lemmas.Option.{slice_get_within}
 use Rattle.std.proofs.lemmas.List.Elements.{All-weaker, All-map}
 use Rattle.co_text.specs.declared.found.Hit.{Hit}
 use Rattle.co_text.specs.declared.ranks.Ranked.{Ranked}
-use Rattle.co_text.specs.Ranking.{ranking, IsScored, IsRanking}
+use Rattle.co_text.specs.Ranking.{ranking, IsScored}
 use Rattle.co_text.proofs.Rankings.{is_ranking, one_ranking}
 use Rattle.co_corpus.specs.declared.documents.Document.{Document}
 use Rattle.co_tfidf.specs.Scores.{scores}

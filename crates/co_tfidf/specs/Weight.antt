@@ -1,4 +1,5 @@
--- Quarter bits, and the weight of a term in a document.
+-- Quarter bits, and the weight of a term in a document: term frequency times inverse document
+-- frequency (K. Spärck Jones, 1972), in whole numbers by a rule of our own.
 use Rattle.std.specs.Prelude.{ℕ, zero, suc, ◌*◌, ◌^◌, min, Bool, nat_le, if◌then◌else◌, List, length}
 use Rattle.co_text.specs.Terms.{terms}
 use Rattle.co_corpus.specs.declared.documents.Document.{Document}

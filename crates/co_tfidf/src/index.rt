@@ -1,5 +1,5 @@
 //! The index of a corpus.
-ghost use Rattle.std.specs.Prelude.{◌≡◌, ◌≤◌, ◌<◌, ◌+◌, ◌^◌, ◌++◌, [], ◌∷◌, ℕ, List, All, map, flat_map, length, IfOk, OnOk, IsUtf8};
+ghost use Rattle.std.specs.Prelude.{◌≡◌, ◌≤◌, ◌<◌, ◌+◌, ◌^◌, ◌++◌, [], All, map, flat_map, length, IfOk, OnOk, IsUtf8};
 ghost use Rattle.co_text.specs.declared.limits.TheConstants.{MAX_DOCUMENTS};
 ghost use Rattle.co_tfidf.specs.Tables.{shown, posting_entry, table_entries};
 ghost use Rattle.co_tfidf.specs.Found.{IsIndex};

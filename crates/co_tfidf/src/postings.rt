@@ -1,5 +1,5 @@
 //! The postings of a term: the documents that have it, each with how often.
-ghost use Rattle.std.specs.Prelude.{◌≡◌, ◌≤◌, ◌<◌, ◌++◌, [], ◌∷◌, length, OnOk};
+ghost use Rattle.std.specs.Prelude.{◌≡◌, ◌<◌, ◌++◌, [], ◌∷◌, length, OnOk};
 ghost use Rattle.co_tfidf.specs.Postings.{counted, last_posting};
 
 use std::alloc::{AllocError, Global};

@@ -1,5 +1,5 @@
 //! The vocabulary: the terms of the most documents.
-ghost use Rattle.std.specs.Prelude.{◌≡◌, ◌≤◌, map, take, length, IfOk, OnOk, string_bytes, [], List};
+ghost use Rattle.std.specs.Prelude.{◌≡◌, map, take, IfOk, OnOk, string_bytes, []};
 ghost use Rattle.std.specs.BTreeMap.{insert_entry, IsOrdered};
 ghost use Rattle.std.specs.Ordering.{nat_cmp};
 ghost use Rattle.std.specs.String.{string_cmp};

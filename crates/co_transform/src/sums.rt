@@ -1,6 +1,6 @@
 //! Sums of products in 128 bits, and their residues.
 
-ghost use Rattle.std.specs.Prelude.{◌≡◌, ◌+◌, ◌-◌, ◌*◌, ◌<◌, ◌≤◌, ◌%◌, ◌^◌, ℕ, [], ◌∷◌, length, slice_index};
+ghost use Rattle.std.specs.Prelude.{◌≡◌, ◌+◌, ◌-◌, ◌*◌, ◌<◌, ◌≤◌, ◌%◌, ◌^◌, [], ◌∷◌, length};
 ghost use Rattle.co_transform.specs.Trees.{AreWithin, HaveResidues};
 ghost use Rattle.co_transform.specs.Gathered.{Gathered, GatheredAll, IsReducer};
 

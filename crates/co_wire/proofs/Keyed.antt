@@ -1,6 +1,6 @@
 -- Keys that are read pair by pair, and one after another.
-use Rattle.std.proofs.Common.{◌≡◌, ℕ, ◌+◌, ◌*◌, ◌/◌, ◌%◌, ◌^◌, ◌<◌, ◌≤◌, refl, sym, ap, subst, ◌∙◌, arith, List, [], ◌∷◌, ◌++◌, length, length-append, get_or, take, map, append_assoc, Result, Ok, Err}
-use Rattle.std.specs.Prelude.{All, IfOk}
+use Rattle.std.proofs.Common.{◌≡◌, ℕ, ◌+◌, ◌*◌, ◌/◌, ◌%◌, ◌^◌, ◌<◌, ◌≤◌, refl, sym, ap, subst, ◌∙◌, arith, List, [], ◌∷◌, ◌++◌, length, length-append, get_or, take, map, append_assoc}
+use Rattle.std.specs.Prelude.{All}
 use Rattle.std.specs.List.{flat_map, range_with_len}
 use Rattle.std.proofs.Math.Nat.{mul-le-mul_right}
 use Rattle.std.proofs.lemmas.List.FromFn.{map-range_with_len_more}
@@ -14,9 +14,8 @@ use Rattle.co_noise.specs.Bounds.{HasRoom}
 use Rattle.co_rns.specs.Pairs.{IsWhole}
 use Rattle.co_switch.specs.Keys.{Key, Keys, IsKey, AreKeysOf, key_degree, keys_degree, rotation_element, expansion_element}
 use Rattle.co_switch.proofs.Elements.{half_of, levels-le}
-use Rattle.co_wire.specs.declared.fault.WireFault.{WireFault}
-use Rattle.co_wire.specs.Bodies.{polynomial_bytes, pairs_bytes, key_bytes, SpellsKeys}
-use Rattle.co_wire.specs.Parts.{AreInRangeTo, SpellsBetween, AreReadKeys, IsSetRead}
+use Rattle.co_wire.specs.Bodies.{polynomial_bytes, pairs_bytes, key_bytes}
+use Rattle.co_wire.specs.Parts.{AreInRangeTo, SpellsBetween, AreReadPairs, AreReadKeys, IsSetRead}
 use Rattle.co_wire.proofs.Fronts.{spells-none, spells-then, spells-to, spells-all}
 
 -- one pair more
@@ -41,18 +40,6 @@ pairs-more xs ys k before now mid last x y l len e f g a b =
     ∙ (λ t. pairs_bytes (sym (take_more xs k [] l) t) (sym (take_more ys k [] (omega (arith, len))) t)))
 
 -- ---- pairs
-
--- the first i pairs of a key are read, up to the residue `at`
-pub record AreReadPairs (n start i at : ℕ) (k0 k1 : List (List ℕ)) (body : List ℕ) : Type 0 where
-  pub at_is : at ≡ start + i * (4 * n)
-  pub first_count : length k0 ≡ i
-  pub second_count : length k1 ≡ i
-  pub first_degree : All (λ p. length p ≡ n) k0
-  pub second_degree : All (λ p. length p ≡ n) k1
-  pub first_whole : All IsWhole k0
-  pub second_whole : All IsWhole k1
-  pub spelled : SpellsBetween start at (pairs_bytes k0 k1) body
-  pub in_range : AreInRangeTo body at
 
 pub no-pairs : (n start : ℕ) (k0 k1 : List (List ℕ)) (body : List ℕ) → k0 ≡ [] → k1 ≡ [] → AreInRangeTo body start → AreReadPairs n start 0 start k0 k1 body
 unfolding pairs_bytes
@@ -80,6 +67,15 @@ pair-room n start i at long e l room =
 pub even-at : (n start i at : ℕ) → at ≡ start + i * (4 * n) → start % 2 ≡ 0 → at % 2 ≡ 0
 even-at n start i at e even = omega (arith, e, even)
 
+-- there is room for one part more of so many, and the next part begins at an even place
+pub part-room : (size i at count start long : ℕ) → at ≡ start + i * size → i < count → 7 * (start + count * size) ≤ long → 7 * (at + size) ≤ long
+part-room size i at count start long e l room =
+    let next : i + 1 ≤ count = omega arith in
+    omega (arith, e, room, mul-le-mul_right size next)
+
+pub key-even : (n start i at : ℕ) → at ≡ start + i * (24 * n) → start % 2 ≡ 0 → at % 2 ≡ 0
+key-even n start i at e even = omega (arith, e, even)
+
 pub one-pair : (n start i at mid end next : ℕ) (k0 k1 after0 after1 : List (List ℕ)) (x y body : List ℕ) → AreReadPairs n start i at k0 k1 body → mid ≡ at + 2 * n → end ≡ mid + 2 * n → next ≡ end
     → after0 ≡ k0 ++ x ∷ [] → after1 ≡ k1 ++ y ∷ [] → length x ≡ n → length y ≡ n → IsWhole x → IsWhole y
     → SpellsBetween at mid (polynomial_bytes x) body → SpellsBetween mid end (polynomial_bytes y) body → AreInRangeTo body end → AreReadPairs n start (i + 1) next after0 after1 body
@@ -100,6 +96,25 @@ one-pair n start i at mid end next k0 k1 after0 after1 x y body h mid_is end_is 
     pushed : pairs_bytes k0 k1 ++ (polynomial_bytes x ++ polynomial_bytes y) ≡ pairs_bytes after0 after1
     pushed = sym (pairs-push k0 k1 x y (h.second_count ∙ sym h.first_count)) ∙ (λ t. pairs_bytes (sym e t) (sym f t))
 
+-- the degree of the key of all pairs, and that it is a key
+pub pairs-degree : (n element start at : ℕ) (k0 k1 : List (List ℕ)) (body : List ℕ) → AreReadPairs n start 6 at k0 k1 body → key_degree (record { element = element; k0 = k0; k1 = k1 }) ≡ n
+pairs-degree n element start at k0 k1 body h = h.first_degree 0 [] (omega (arith, h.first_count))
+
+pub pairs-key : (n element start at : ℕ) (k0 k1 : List (List ℕ)) (body : List ℕ) → AreReadPairs n start 6 at k0 k1 body → element % 2 ≡ 1 → element < 2 * n → IsKey (record { element = element; k0 = k0; k1 = k1 })
+pairs-key n element start at k0 k1 body h odd within =
+    let degree = pairs-degree n element start at k0 k1 body h in
+    record {
+      degree = (h.first_whole 0 [] (omega (arith, h.first_count))).degree;
+      k0_count = h.first_count;
+      k1_count = h.second_count;
+      k0_degree = λ i d l. h.first_degree i d l ∙ sym degree;
+      k1_degree = λ i d l. h.second_degree i d l ∙ sym degree;
+      k0_whole = h.first_whole;
+      k1_whole = h.second_whole;
+      odd = odd;
+      within = omega (arith, within, degree);
+    }
+
 -- ---- keys
 
 pub two_at_least : (n : ℕ) → IsDegree n → 2 ≤ n
@@ -118,14 +133,6 @@ no-keys n element start keys body e range = subst (λ (ks : List Key). AreReadKe
   in_range = range;
 })
 
-pub key-room : (n start i at count long : ℕ) → at ≡ start + i * (24 * n) → i < count → 7 * (start + count * (24 * n)) ≤ long → 7 * (at + 24 * n) ≤ long
-key-room n start i at count long e l room =
-    let next : i + 1 ≤ count = omega arith in
-    omega (arith, e, room, mul-le-mul_right (24 * n) next)
-
-pub even-key : (n start i at : ℕ) → at ≡ start + i * (24 * n) → start % 2 ≡ 0 → at % 2 ≡ 0
-even-key n start i at e even = omega (arith, e, even)
-
 pub one-key : (n : ℕ) (element : ℕ → ℕ) (start i at next : ℕ) (keys after : List Key) (key : Key) (body : List ℕ) → AreReadKeys n element start i at keys body → next ≡ at + 24 * n → after ≡ keys ++ key ∷ []
     → key.element ≡ element i → key_degree key ≡ n → IsKey key → SpellsBetween at (at + 24 * n) (key_bytes key) body → AreInRangeTo body (at + 24 * n) → AreReadKeys n element start (i + 1) next after body
 one-key n element start i at next keys after key body h next_is e el degree is spelled range = record {
@@ -140,11 +147,6 @@ one-key n element start i at next keys after key body h next_is e el degree is s
       (spelled ∙ ap (λ (zs : List ℕ). zs ++ key_bytes key) h.spelled ∙ flat_map_more key_bytes (take (7 * start) body) keys key ∙ ap (λ (ks : List Key). take (7 * start) body ++ flat_map key_bytes ks) (sym e));
   in_range = subst (AreInRangeTo body) (sym next_is) range;
 }
-
-pub all-keys : (n : ℕ) (element : ℕ → ℕ) (start i at count end : ℕ) (keys : List Key) (body : List ℕ) → AreReadKeys n element start i at keys body → i ≡ count → end ≡ start + count * (24 * n) → AreReadKeys n element start count end keys body
-all-keys n element start i at count end keys body h e end_is =
-    let same : at ≡ end = h.at_is ∙ ap (λ (k : ℕ). start + k * (24 * n)) e ∙ sym end_is in
-    subst (λ (m : ℕ). AreReadKeys n element start count m keys body) same (subst (λ (k : ℕ). AreReadKeys n element start k at keys body) e h)
 
 -- ---- the set
 
@@ -179,10 +181,3 @@ set-read n turns more mid end keys body d turns_are few long r x = record {
     ends turns more n mid end long e f g =
         let split : (turns + more) * (6 * (28 * n)) ≡ turns * (168 * n) + more * (168 * n) = omega arith in
         omega (arith, e, f, g, split)
-
-pub set-is : (s : Numbers) (n more : ℕ) (body : List ℕ) (r : Result Keys WireFault) → n ≡ s.degree → more ≡ levels s → IfOk r (λ keys. IsSetRead n more keys body) → IfOk r (λ keys. SpellsKeys s keys body)
-set-is s n more body (Err fault) e f h = tt
-set-is s n more body (Ok keys) e f h = record {
-  keys_for = record { set = h.set; degree = h.degree ∙ e; level_count = h.level_count ∙ f };
-  spelled = h.spelled;
-}

@@ -85,7 +85,3 @@ pub record IsFirstOutOfRange (body : List ℕ) (place : ℕ) : Type 0 where
   pub within : place < length body
   pub here : modulus_at which ≤ residue_at body which
   pub before : (k : ℕ) → k < which → residue_at body k < modulus_at k
-
--- no residue is out of range
-abbrev pub AreInRange : List ℕ → Type 0
-AreInRange body = (k : ℕ) → 7 * k < length body → residue_at body k < modulus_at k

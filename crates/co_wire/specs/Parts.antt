@@ -1,10 +1,11 @@
 -- A body that is read from its front, residue by residue.
 use Rattle.std.specs.Prelude.{◌≡◌, ℕ, ◌+◌, ◌*◌, ◌<◌, List, ◌++◌, length, map, take, All, Result, Ok, Err}
 use Rattle.std.specs.List.{flat_map, range_with_len}
+use Rattle.co_rns.specs.Pairs.{IsWhole}
 use Rattle.co_switch.specs.Keys.{Key, Keys, IsKey, AreKeys, key_degree, keys_degree}
 use Rattle.co_wire.specs.declared.fault.WireFault.{WireFault}
-use Rattle.co_wire.specs.declared.fault.WireFault.TheVariants.{Length, Range, Public, OutOfMemory}
-use Rattle.co_wire.specs.Bodies.{residue_at, modulus_at, IsFirstOutOfRange, key_bytes, keys_bytes}
+use Rattle.co_wire.specs.declared.fault.WireFault.TheVariants.{Range, OutOfMemory}
+use Rattle.co_wire.specs.Bodies.{residue_at, modulus_at, IsFirstOutOfRange, pairs_bytes, key_bytes, keys_bytes}
 
 -- the residues before the i-th are in range
 abbrev pub AreInRangeTo : List ℕ → ℕ → Type 0
@@ -26,6 +27,18 @@ IsRangeFault body fault = ⊥
 abbrev pub ReadsTo : {X : Type 0} → (X → List ℕ) → ℕ → ℕ → List ℕ → Result X WireFault → Type 0
 ReadsTo text i j body (Ok x) = SpellsBetween i j (text x) body × AreInRangeTo body j
 ReadsTo text i j body (Err fault) = IsRangeFault body fault
+
+-- the first i pairs of a key are read, up to the residue `at`
+pub record AreReadPairs (n start i at : ℕ) (k0 k1 : List (List ℕ)) (body : List ℕ) : Type 0 where
+  pub at_is : at ≡ start + i * (4 * n)
+  pub first_count : length k0 ≡ i
+  pub second_count : length k1 ≡ i
+  pub first_degree : All (λ p. length p ≡ n) k0
+  pub second_degree : All (λ p. length p ≡ n) k1
+  pub first_whole : All IsWhole k0
+  pub second_whole : All IsWhole k1
+  pub spelled : SpellsBetween start at (pairs_bytes k0 k1) body
+  pub in_range : AreInRangeTo body at
 
 -- so many keys of degree n with these elements
 pub record AreEach (n : ℕ) (element : ℕ → ℕ) (count : ℕ) (keys : List Key) : Type 0 where

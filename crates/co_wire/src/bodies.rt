@@ -1,6 +1,6 @@
 //! Ciphertexts as bytes.
 
-ghost use Rattle.std.specs.Prelude.{◌≡◌, ◌+◌, ◌*◌, ◌%◌, ◌<◌, ◌≤◌, ◌++◌, length, take, drop, IfOk, IfErr, OnOk};
+ghost use Rattle.std.specs.Prelude.{◌≡◌, ◌+◌, ◌*◌, ◌%◌, ◌<◌, ◌≤◌, ◌++◌, length, IfOk, IfErr, OnOk};
 ghost use Rattle.co_rns.specs.Pairs.{IsWhole};
 ghost use Rattle.co_bfv.specs.Ciphertexts.{IsCiphertext, ciphertext_degree};
 ghost use Rattle.co_wire.specs.BadBodies.{IsBadBody};
@@ -12,7 +12,7 @@ ghost use Rattle.co_wire.specs.Parts.{AreInRangeTo, ReadsTo, IsRangeFault};
 use crate::fault::WireFault;
 use co_bfv::Cipher;
 use co_link::Bytes;
-use co_math::parameters::{FIRST_MODULUS, SECOND_MODULUS};
+use co_math::{FIRST_MODULUS, SECOND_MODULUS};
 use co_ring::{Degree, Modulus, Poly};
 use co_rns::Pair;
 use std::alloc::{AllocError, Global};

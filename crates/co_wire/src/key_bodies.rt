@@ -1,6 +1,6 @@
 //! Key sets as bytes.
 
-ghost use Rattle.std.specs.Prelude.{◌≡◌, ◌+◌, ◌*◌, ◌/◌, ◌%◌, ◌<◌, ◌≤◌, ◌++◌, length, IfOk, IfErr, OnOk};
+ghost use Rattle.std.specs.Prelude.{◌≡◌, ◌+◌, ◌*◌, ◌/◌, ◌%◌, ◌<◌, ◌≤◌, ◌++◌, [], length, IfOk, IfErr, OnOk};
 ghost use Rattle.std.specs.List.{flat_map};
 ghost use Rattle.co_link.specs.declared.messages.Target.TheVariants as targets;
 ghost use Rattle.co_math.specs.Coefficients.{IsDegree};
@@ -8,17 +8,17 @@ ghost use Rattle.co_math.specs.Logarithms.{log2_up};
 ghost use Rattle.co_switch.specs.Keys.{IsKey, key_degree, rotation_element, expansion_element};
 ghost use Rattle.co_wire.specs.BadBodies.{IsBadBody};
 ghost use Rattle.co_wire.specs.Bodies.{SpellsKeys, key_bytes, keys_bytes};
-ghost use Rattle.co_wire.specs.Parts.{AreInRangeTo, AreReadKeys, ReadsTo, IsRangeFault, IsSetRead};
+ghost use Rattle.co_wire.specs.Parts.{AreInRangeTo, AreReadPairs, AreReadKeys, ReadsTo, IsRangeFault, IsSetRead};
 ghost use Rattle.co_wire.specs.Lengths.{key_size, request_size};
 
 use crate::bodies::{CIPHER_BYTES, check_length, put_polynomial, read_polynomial};
 use crate::fault::WireFault;
 use crate::lengths::request_length;
 use co_link::{Bytes, Target};
-use co_math::log2_up;
-use co_math::parameters::DIGIT_COUNT;
+use co_math::{DIGIT_COUNT, log2_up};
 use co_noise::Tested;
 use co_ring::Degree;
+use co_rns::Pair;
 use co_switch::{GaloisKey, KeySet};
 use std::alloc::{AllocError, Global};
 
@@ -71,6 +71,41 @@ pub fn write_keys(alloc: Global, keys: &KeySet) -> Result<Bytes, AllocError>
 
 // ---- reading
 
+/// Adds the pairs of a key's digits, which stand behind so many residues, to two empty lists.
+fn read_pairs(
+    alloc: Global,
+    degree: Degree,
+    body: &[u8],
+    from: usize,
+    k0: &mut Vec<Pair>,
+    k1: &mut Vec<Pair>,
+) -> Result<(), WireFault>
+    requires room { 7 * (from + 24 * degree) ≤ length body.now }
+    requires even { from % 2 ≡ 0 }
+    requires before { AreInRangeTo body.now from }
+    requires k0 { k0.old.items ≡ [] }
+    requires k1 { k1.old.items ≡ [] }
+    ensures pairs { OnOk result (AreReadPairs degree from 6 (from + 24 * degree) k0.new.items
+        k1.new.items body.now) }
+    ensures fault { IfErr result (IsRangeFault body.now) }
+{
+    let half = 2 * degree.get() as usize;
+    let mut at = from;
+    for index in 0..DIGIT_COUNT {
+        let _ = index;
+        let first = read_polynomial(alloc, degree, body, at)?;
+        let Ok(()) = k0.push(first) else {
+            return Err(WireFault::OutOfMemory);
+        };
+        let second = read_polynomial(alloc, degree, body, at + half)?;
+        let Ok(()) = k1.push(second) else {
+            return Err(WireFault::OutOfMemory);
+        };
+        at += 2 * half;
+    }
+    Ok(())
+}
+
 /// The key for an element, which stands behind so many residues.
 fn read_key(
     alloc: Global,
@@ -89,22 +124,9 @@ fn read_key(
     ensures degree { IfOk result (λ key. key_degree key ≡ degree) }
     ensures key { IfOk result IsKey }
 {
-    let half = 2 * degree.get() as usize;
     let mut k0 = Vec::with_capacity(alloc, DIGIT_COUNT as usize)?;
     let mut k1 = Vec::with_capacity(alloc, DIGIT_COUNT as usize)?;
-    let mut at = from;
-    for index in 0..DIGIT_COUNT {
-        let _ = index;
-        let first = read_polynomial(alloc, degree, body, at)?;
-        let Ok(()) = k0.push(first) else {
-            return Err(WireFault::OutOfMemory);
-        };
-        let second = read_polynomial(alloc, degree, body, at + half)?;
-        let Ok(()) = k1.push(second) else {
-            return Err(WireFault::OutOfMemory);
-        };
-        at += 2 * half;
-    }
+    read_pairs(alloc, degree, body, from, &mut k0, &mut k1)?;
     Ok(GaloisKey::from_parts(alloc, element, k0, k1)?)
 }
 
@@ -117,22 +139,23 @@ fn square(element: u32, modulus: u32) -> u32
     element * element % modulus
 }
 
-/// The keys for 3^(2^b) modulo 2n, in the order of b, from the front of a body on.
+/// Adds the keys for 3^(2^b) modulo 2n, in the order of b, from the front of a body on, to none.
 fn read_rotations(
     alloc: Global,
     degree: Degree,
     count: u32,
     body: &[u8],
-) -> Result<Vec<GaloisKey>, WireFault>
+    keys: &mut Vec<GaloisKey>,
+) -> Result<(), WireFault>
     requires whole { count * (168 * degree) ≤ length body.now }
     requires known { IsDegree degree }
-    ensures read { IfOk result (λ keys. AreReadKeys degree (rotation_element degree) 0 count
-        (count * (24 * degree)) keys.items body.now) }
+    requires none { keys.old.items ≡ [] }
+    ensures read { OnOk result (AreReadKeys degree (rotation_element degree) 0 count
+        (count * (24 * degree)) keys.new.items body.now) }
     ensures fault { IfErr result (IsRangeFault body.now) }
 {
     let n = degree.get();
     let step = 24 * n as usize;
-    let mut keys = Vec::with_capacity(alloc, count as usize)?;
     let mut at = 0;
     let mut element = 3;
     for b in 0..count {
@@ -144,29 +167,30 @@ fn read_rotations(
         at += step;
         element = square(element, 2 * n);
     }
-    Ok(keys)
+    Ok(())
 }
 
-/// The keys for n / 2^j + 1, in the order of j, behind so many residues.
+/// Adds the keys for n / 2^j + 1, in the order of j, behind so many residues, to none.
 fn read_expansions(
     alloc: Global,
     degree: Degree,
     count: u32,
     body: &[u8],
     from: usize,
-) -> Result<Vec<GaloisKey>, WireFault>
+    keys: &mut Vec<GaloisKey>,
+) -> Result<(), WireFault>
     requires whole { 7 * (from + count * (24 * degree)) ≤ length body.now }
     requires even { from % 2 ≡ 0 }
     requires before { AreInRangeTo body.now from }
     requires known { IsDegree degree }
     requires few { count ≤ log2_up (degree / 2) + 1 }
-    ensures read { IfOk result (λ keys. AreReadKeys degree (expansion_element degree) from count
-        (from + count * (24 * degree)) keys.items body.now) }
+    requires none { keys.old.items ≡ [] }
+    ensures read { OnOk result (AreReadKeys degree (expansion_element degree) from count
+        (from + count * (24 * degree)) keys.new.items body.now) }
     ensures fault { IfErr result (IsRangeFault body.now) }
 {
     let n = degree.get();
     let step = 24 * n as usize;
-    let mut keys = Vec::with_capacity(alloc, count as usize)?;
     let mut at = from;
     for j in 0..count {
         let key = read_key(alloc, degree, (n >> j) + 1, body, at)?;
@@ -175,7 +199,7 @@ fn read_expansions(
         };
         at += step;
     }
-    Ok(keys)
+    Ok(())
 }
 
 /// The key set that a body of the right length spells.
@@ -193,9 +217,11 @@ fn read_set(
     ensures spelled { IfOk result (λ keys. IsSetRead degree levels keys body.now) }
     ensures fault { IfErr result (IsRangeFault body.now) }
 {
-    let rotations = read_rotations(alloc, degree, turns, body)?;
+    let mut rotations = Vec::with_capacity(alloc, turns as usize)?;
+    read_rotations(alloc, degree, turns, body, &mut rotations)?;
     let from = turns as usize * (24 * degree.get() as usize);
-    let expansions = read_expansions(alloc, degree, levels, body, from)?;
+    let mut expansions = Vec::with_capacity(alloc, levels as usize)?;
+    read_expansions(alloc, degree, levels, body, from, &mut expansions)?;
     Ok(KeySet::from_parts(rotations, expansions))
 }
 

@@ -7,8 +7,7 @@ ghost use Rattle.co_wire.specs.Lengths.{request_size, reply_size};
 
 use co_bucket::{RECORD_COEFFICIENTS, buckets};
 use co_link::Target;
-use co_math::log2_up;
-use co_math::parameters::DIGIT_COUNT;
+use co_math::{DIGIT_COUNT, log2_up};
 use co_noise::Tested;
 
 /// How many payloads of one polynomial a row of records has.

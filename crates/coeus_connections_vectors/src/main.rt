@@ -1,9 +1,9 @@
 //! Serves the connections and makes the exchanges that other programs worked out, and prints what
 //! comes of them.
 //!
-//! `data/http.json` has a corpus, and three lists over its library. `connections`: an input; each is
-//! served whole and one byte at each take, and a line says how many responses it had, how it ended,
-//! and the length and the digest of what was put. `requests`: a host, a target and the length of a
+//! `data/http.json` has a corpus, and three lists over its library. `connections`: an input; each
+//! is served whole and one byte at each take, and a line says how many responses it had, how it
+//! ended, and the length and the digest of what was put. `requests`: a host, a target and the length of a
 //! body; a line says the length and the digest of what is put. `replies`: what a server puts; it is
 //! taken whole and one byte at each take, and a line says what it is read as. The file `stdout` has
 //! the lines that must come. They were made from outside values, never from what this program

@@ -1,3 +1,4 @@
+-- The words that a case gives a generator.
 use Rattle.std.specs.Prelude.{ℕ, List, [], ◌∷◌}
 
 -- the next of some words, and those behind it: without end zeros follow the words

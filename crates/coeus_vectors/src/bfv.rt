@@ -12,6 +12,7 @@ use co_slots::{decode_slots, encode_slots};
 use rand_core::Rng;
 use std::alloc::{AllocError, Global};
 
+/// The line of a case, behind the name of its call.
 pub fn line<R: Stand>(case: Case, rng: &mut R) -> Result<String, BadCase> {
     let mut line = String::new(case.alloc);
     let secret = drawn(case, rng)?;

@@ -5,6 +5,7 @@ use crate::lines::{put, put_text};
 use co_board::Board;
 use std::alloc::AllocError;
 
+/// The line of a case, behind the name of its call.
 pub fn line(case: Case) -> Result<String, BadCase> {
     let mut line = String::new(case.alloc);
     match case.call() {

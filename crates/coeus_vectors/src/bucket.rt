@@ -1,6 +1,6 @@
 //! Buckets, candidates, lists and placements.
 
-ghost use Rattle.std.specs.Prelude.{◌<◌, ◌≤◌, IsTrue};
+ghost use Rattle.std.specs.Prelude.{◌<◌, IsTrue};
 ghost use Rattle.std.specs.List.{All};
 
 use crate::cases::{BadCase, Case};
@@ -10,6 +10,7 @@ use co_bucket::{
 };
 use std::alloc::AllocError;
 
+/// The line of a case, behind the name of its call.
 pub fn line(case: Case) -> Result<String, BadCase> {
     let mut line = String::new(case.alloc);
     match case.call() {

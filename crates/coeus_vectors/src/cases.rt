@@ -1,11 +1,11 @@
 //! What a case says. Each field of its object is a text; numbers in it stand apart by spaces.
 
-ghost use Rattle.std.specs.Prelude.{◌≡◌, ◌<◌, length, IfOk};
+ghost use Rattle.std.specs.Prelude.{◌≡◌, ◌<◌, IfOk};
 ghost use Rattle.co_math.specs.Coefficients.{AreBelow};
 ghost use Rattle.co_math.specs.Parameters.{q};
 ghost use Rattle.co_ring.specs.Moduli.{value_of};
 
-use co_math::parameters::CIPHER_MODULUS;
+use co_math::CIPHER_MODULUS;
 use co_ring::{Degree, Modulus, Poly};
 use co_rns::Pair;
 use serde_json::Value;
@@ -33,6 +33,7 @@ pub struct Case<'a> {
 }
 
 impl<'a> Case<'a> {
+    /// The case with these fields.
     pub fn new(alloc: Global, fields: &'a Value) -> Self {
         Case { alloc, fields }
     }
@@ -50,18 +51,20 @@ impl<'a> Case<'a> {
         }
     }
 
-    /// The cases that the field `steps` lists.
-    pub fn steps(&self) -> Result<&'a [Value], BadCase> {
-        match self.fields.get("steps").and_then(Value::as_array) {
-            Some(steps) => Ok(steps.as_slice()),
+    /// The cases that a field lists.
+    pub fn list(&self, name: &str) -> Result<&'a [Value], BadCase> {
+        match self.fields.get(name).and_then(Value::as_array) {
+            Some(list) => Ok(list.as_slice()),
             None => Err(BadCase::Unfit),
         }
     }
 
+    /// The number of a field, 0 where there is none.
     pub fn number(&self, name: &str) -> u32 {
         self.text(name).parse().unwrap_or(0)
     }
 
+    /// The numbers of a field.
     pub fn numbers(&self, name: &str) -> Result<Vec<u32>, AllocError> {
         let mut all = Vec::new(self.alloc);
         for word in self.text(name).split_ascii_whitespace() {
@@ -70,6 +73,7 @@ impl<'a> Case<'a> {
         Ok(all)
     }
 
+    /// The numbers of 64 bits of a field.
     pub fn words(&self, name: &str) -> Result<Vec<u64>, AllocError> {
         let mut all = Vec::new(self.alloc);
         for word in self.text(name).split_ascii_whitespace() {

@@ -1,5 +1,5 @@
-//! Public bytes of libraries, and faults of these and of their files. The files themselves stand in the
-//! black-box cases.
+//! Public bytes of libraries, and faults of these and of their files. The files themselves stand in
+//! the black-box cases.
 
 use crate::cases::{BadCase, Case};
 use crate::lines::{put, put_bytes, put_text};
@@ -9,6 +9,7 @@ use co_link::Bytes;
 use co_wire::{WireFault, read_public, read_shape_fields, write_public};
 use std::alloc::{AllocError, Global};
 
+/// The line of a case, behind the name of its call.
 pub fn line(case: Case) -> Result<String, BadCase> {
     let mut line = String::new(case.alloc);
     let library = library(case)?;
@@ -31,6 +32,7 @@ fn settings(case: Case) -> Settings {
     }
 }
 
+/// The library of a case.
 pub fn library(case: Case) -> Result<Library, BadCase> {
     match publish(case.alloc, &corpus(case)?, &settings(case)) {
         Ok(library) => Ok(library),

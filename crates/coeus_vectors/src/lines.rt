@@ -7,14 +7,17 @@ use co_wire::write_ciphers;
 use sha2::{Digest, Sha256};
 use std::alloc::{AllocError, Global};
 
+/// A number.
 pub fn put(line: &mut String, number: u128) -> Result<(), AllocError> {
     write!(line, " {number}")
 }
 
+/// A word.
 pub fn put_text(line: &mut String, text: &str) -> Result<(), AllocError> {
     write!(line, " {text}")
 }
 
+/// Numbers, in order.
 pub fn put_numbers(line: &mut String, numbers: &[u32]) -> Result<(), AllocError> {
     for number in numbers {
         put(line, *number as u128)?;
@@ -22,6 +25,7 @@ pub fn put_numbers(line: &mut String, numbers: &[u32]) -> Result<(), AllocError>
     Ok(())
 }
 
+/// Numbers of 64 bits, in order.
 pub fn put_words(line: &mut String, words: &[u64]) -> Result<(), AllocError> {
     for word in words {
         put(line, *word as u128)?;
@@ -29,6 +33,7 @@ pub fn put_words(line: &mut String, words: &[u64]) -> Result<(), AllocError> {
     Ok(())
 }
 
+/// The coefficients of a polynomial, the constant first.
 pub fn put_poly(line: &mut String, poly: &Poly) -> Result<(), AllocError> {
     for k in 0..poly.degree() {
         put(line, poly.coeff(k) as u128)?;
@@ -36,6 +41,7 @@ pub fn put_poly(line: &mut String, poly: &Poly) -> Result<(), AllocError> {
     Ok(())
 }
 
+/// The coefficients of a polynomial modulo q, the constant first.
 pub fn put_pair(line: &mut String, pair: &Pair) -> Result<(), AllocError> {
     for k in 0..pair.degree() {
         put(line, pair.compose(k))?;

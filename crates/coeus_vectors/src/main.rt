@@ -1,9 +1,9 @@
 //! Gives the layers the cases that other programs worked out, and prints what comes of them.
 //!
-//! `data/LAYER.json` lists the cases of a layer. A case is an object of texts: the name of a `call`,
-//! and what that call is given. For each the program prints a line: the layer, the number of the
-//! case, the call, and what came of it. The file `stdout` has the lines that must come. They were
-//! made from outside values, never from what this program printed.
+//! `data/LAYER.json` lists the cases of a layer. A case is an object of texts: the name of a
+//! `call`, and what that call is given. For each the program prints a line: the layer, the number
+//! of the case, the call, and what came of it. The file `stdout` has the lines that must come. They
+//! were made from outside values, never from what this program printed.
 //!
 //! A further case is an object in a file of data/ and a line in `stdout`. A further layer is a file
 //! of data/, a module with a function `line`, its name in `LAYERS` and an arm of `line_of`.
@@ -16,6 +16,7 @@ mod cases;
 mod gates;
 mod library;
 mod lines;
+mod link;
 mod matvec;
 mod noise;
 mod pack;
@@ -39,9 +40,9 @@ use std::fs;
 use std::thread::Threads;
 
 /// The layers, lowest first.
-const LAYERS: [&str; 18] = [
+const LAYERS: [&str; 19] = [
     "ring", "rns", "slots", "noise", "bfv", "switch", "rot", "matvec", "pir", "board", "bucket",
-    "text", "tfidf", "pack", "library", "wire", "session", "search",
+    "link", "text", "tfidf", "pack", "library", "wire", "session", "search",
 ];
 
 fn line_of<R: Threads + Sync>(rt: &R, layer: &str, case: Case) -> Result<String, BadCase> {
@@ -56,6 +57,7 @@ fn line_of<R: Threads + Sync>(rt: &R, layer: &str, case: Case) -> Result<String,
         "pir" => pir::line(rt, case),
         "board" => board::line(case),
         "bucket" => bucket::line(case),
+        "link" => link::line(case),
         "text" => text::line(case),
         "tfidf" => tfidf::line(case),
         "pack" => pack::line(case),

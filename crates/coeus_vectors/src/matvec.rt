@@ -17,6 +17,7 @@ use rand_xoshiro::SplitMix64;
 use std::alloc::AllocError;
 use std::thread::Threads;
 
+/// The line of a case, behind the name of its call.
 pub fn line<R: Threads + Sync>(rt: &R, case: Case) -> Result<String, BadCase> {
     let mut line = String::new(case.alloc);
     match case.call() {
@@ -192,7 +193,8 @@ fn put_scores_by<R: Threads + Sync>(
     Ok(gate.put(line, case.call())?)
 }
 
-/// The slots that the replies open to, behind the digests of query and replies where they are known.
+/// The slots that the replies open to, behind the digests of query and replies where they are
+/// known.
 fn put_found(
     line: &mut String,
     case: Case,

@@ -6,6 +6,7 @@ use crate::cases::{BadCase, Case};
 use crate::lines::{put, put_text};
 use co_noise::{Shape, TestFault, Tested, test};
 
+/// The line of a case, behind the name of its call.
 pub fn line(case: Case) -> Result<String, BadCase> {
     let mut line = String::new(case.alloc);
     match case.call() {

@@ -12,6 +12,7 @@ use co_pack::{
 use co_text::Title;
 use std::alloc::Global;
 
+/// The line of a case, behind the name of its call.
 pub fn line(case: Case) -> Result<String, BadCase> {
     let mut line = String::new(case.alloc);
     match case.call() {

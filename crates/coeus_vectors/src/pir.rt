@@ -22,6 +22,7 @@ use rand_xoshiro::SplitMix64;
 use std::alloc::Global;
 use std::thread::Threads;
 
+/// The line of a case, behind the name of its call.
 pub fn line<R: Threads + Sync>(rt: &R, case: Case) -> Result<String, BadCase> {
     let mut line = String::new(case.alloc);
     match case.call() {

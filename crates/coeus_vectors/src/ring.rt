@@ -7,6 +7,7 @@ use crate::cases::{BadCase, Case};
 use crate::lines::{put, put_poly};
 use co_ring::{Modulus, Poly, Spectrum, Table, forward, inverse};
 
+/// The line of a case, behind the name of its call.
 pub fn line(case: Case) -> Result<String, BadCase> {
     let modulus = case.modulus();
     let mut line = String::new(case.alloc);

@@ -4,10 +4,11 @@ ghost use Rattle.std.specs.Prelude.{◌≡◌, length, IfOk};
 
 use crate::cases::{BadCase, Case, degree_of};
 use crate::lines::{put_pair, put_poly};
-use co_math::parameters::DIGIT_COUNT;
+use co_math::DIGIT_COUNT;
 use co_ring::Modulus;
 use co_rns::Pair;
 
+/// The line of a case, behind the name of its call.
 pub fn line(case: Case) -> Result<String, BadCase> {
     let mut line = String::new(case.alloc);
     match case.call() {

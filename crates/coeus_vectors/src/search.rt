@@ -15,6 +15,7 @@ use rand_core::SeedableRng;
 use rand_xoshiro::SplitMix64;
 use std::alloc::{AllocError, Global};
 
+/// The line of a case, behind the name of its call.
 pub fn line<R: Runs>(rt: &R, case: Case) -> Result<String, BadCase>
     requires { R.is_shared }
 {

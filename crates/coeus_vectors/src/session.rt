@@ -11,6 +11,7 @@ use co_link::{Bytes, Dial, Reply, Request, Target};
 use co_server::{Loaded, LocalLink, Runs};
 use std::alloc::{AllocError, Global};
 
+/// The line of a case, behind the name of its call.
 pub fn line<R: Runs>(rt: &R, case: Case) -> Result<String, BadCase>
     requires { R.is_shared }
 {
@@ -72,7 +73,7 @@ fn put_replies<K: Dial>(line: &mut String, case: Case, link: &mut K) -> Result<(
     requires { K.is_ready link.old ≡ true }
 {
     let whole = case.call() == "replies";
-    for fields in case.steps()? {
+    for fields in case.list("steps")? {
         put_step(line, Case::new(case.alloc, fields), whole, link)?;
     }
     Ok(())
@@ -117,7 +118,7 @@ fn asked<K: Dial>(link: &mut K, step: Case) -> Result<Reply, BadCase>
 }
 
 /// The request of a step, whose body is zeros with some bytes put in.
-fn request(step: Case) -> Result<Request, BadCase> {
+pub fn request(step: Case) -> Result<Request, BadCase> {
     let target = match step.text("target") {
         "public" => Target::Public,
         "keys" => Target::Keys,

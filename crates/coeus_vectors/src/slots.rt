@@ -5,6 +5,7 @@ use crate::lines::{put, put_bytes, put_poly, put_text, put_words};
 use co_ring::Modulus;
 use co_slots::{ByteFault, decode_bytes, decode_slots, encode_bytes, encode_slots};
 
+/// The line of a case, behind the name of its call.
 pub fn line(case: Case) -> Result<String, BadCase> {
     let mut line = String::new(case.alloc);
     match case.call() {
@@ -48,6 +49,7 @@ fn put_payload_bytes(line: &mut String, case: Case) -> Result<(), BadCase> {
     }
 }
 
+/// The fault of a polynomial that is no bytes.
 pub fn put_fault(line: &mut String, fault: ByteFault) -> Result<(), BadCase> {
     let ByteFault::NotByte { place } = fault else {
         return Err(BadCase::OutOfMemory);

@@ -32,6 +32,7 @@ impl<'a> Model for Given<'a> {
 }
 
 impl<'a> Given<'a> {
+    /// A generator that gives these words, and then zeros.
     pub fn new(words: &'a [u64]) -> Self {
         Given {
             left: words,

@@ -9,8 +9,7 @@ use crate::lines::{put, put_digest, put_pair, put_text};
 use crate::noise::tested;
 use crate::streams::Stand;
 use co_bfv::{Cipher, Secret, sample_secret};
-use co_math::log2_up;
-use co_math::parameters::{DIGIT_COUNT, FIRST_MODULUS, SECOND_MODULUS};
+use co_math::{DIGIT_COUNT, FIRST_MODULUS, SECOND_MODULUS, log2_up};
 use co_rns::Pair;
 use co_switch::{
     GaloisKey, KeySet, Steps, apply, expansion_element, make_key, make_keys, rotation_element,
@@ -19,6 +18,7 @@ use co_wire::write_keys;
 use rand_core::Rng;
 use std::alloc::{AllocError, Global};
 
+/// The line of a case, behind the name of its call.
 pub fn line<R: Stand>(case: Case, rng: &mut R) -> Result<String, BadCase> {
     let mut line = String::new(case.alloc);
     put_call(&mut line, case, rng)?;

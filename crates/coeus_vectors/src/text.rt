@@ -5,6 +5,7 @@ use crate::lines::{put, put_text};
 use co_text::{QueryFault, Terms, all_terms, distinct_terms, query_terms};
 use std::alloc::AllocError;
 
+/// The line of a case, behind the name of its call.
 pub fn line(case: Case) -> Result<String, BadCase> {
     let mut line = String::new(case.alloc);
     match case.call() {
@@ -16,6 +17,7 @@ pub fn line(case: Case) -> Result<String, BadCase> {
     Ok(line)
 }
 
+/// Terms, in order.
 pub fn put_terms(line: &mut String, terms: &Terms) -> Result<(), AllocError> {
     for term in terms.as_slice() {
         put_text(line, term.as_str())?;

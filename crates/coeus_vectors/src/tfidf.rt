@@ -7,6 +7,7 @@ use co_corpus::{Corpus, read_corpus};
 use co_tfidf::{build_index, quarter_bits};
 use std::alloc::AllocError;
 
+/// The line of a case, behind the name of its call.
 pub fn line(case: Case) -> Result<String, BadCase> {
     let mut line = String::new(case.alloc);
     match case.call() {

@@ -11,6 +11,7 @@ use co_wire::{
 };
 use std::alloc::AllocError;
 
+/// The line of a case, behind the name of its call.
 pub fn line(case: Case) -> Result<String, BadCase> {
     let mut line = String::new(case.alloc);
     match case.call() {
@@ -37,7 +38,8 @@ pub fn put_lengths(line: &mut String, tested: &Tested) -> Result<(), AllocError>
     Ok(())
 }
 
-/// The bytes of the ciphertext whose parts a case lists, and whether they are read and written again.
+/// The bytes of the ciphertext whose parts a case lists, and whether they are read and written
+/// again.
 fn put_written(line: &mut String, case: Case) -> Result<(), BadCase> {
     let cipher = given(case)?;
     let bytes = write_ciphers(case.alloc, &[cipher])?;

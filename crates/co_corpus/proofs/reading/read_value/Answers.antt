@@ -1,5 +1,5 @@
 -- The title keeps its rule, and the text is that of a string.
-use Rattle.std.proofs.Common.{◌≤◌, ap, subst, arith, length, string_bytes}
+use Rattle.std.proofs.Common.{◌≤◌, subst, arith, length, string_bytes}
 use Rattle.std.proofs.lemmas.Str.{IsUtf8-string_bytes}
 use Rattle.co_text.specs.Titles.{IsTitle}
 use Rattle.co_corpus.proofs.reading.read_value.Goals as goal

@@ -1,4 +1,4 @@
-use Rattle.std.proofs.Common.{◌+◌, ◌≤◌, ◌∙◌, ap, vec_len, arith}
+use Rattle.std.proofs.Common.{◌∙◌, ap, arith}
 use Rattle.co_link.specs.Taken.{behind}
 use Rattle.co_link.proofs.Buffers.{taken_more}
 use Rattle.co_link.proofs.taking.fill.Goals as goal

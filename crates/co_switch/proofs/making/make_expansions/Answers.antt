@@ -4,7 +4,7 @@ use Rattle.co_switch.proofs.Listing.{no_keys, keys_more}
 use Rattle.co_switch.proofs.making.make_expansions.Goals as goal
 
 pub loop-index-init : goal.loop-index-init
-loop-index-init g c = no_keys c.args.secret.now (expansion_element (length c.args.secret.now)) (g.R.Rng.stream c.args.rng.now) c.in_ok-keys.keys.items c.in_ok-keys.ensures.items
+loop-index-init g c = no_keys c.args.secret.now (expansion_element (length c.args.secret.now)) (g.R.Rng.stream c.args.rng.now) c.args.keys.now.items c.requires.none
 
 pub make_key-requires-clause-within : goal.make_key-requires-clause-within
 make_key-requires-clause-within g c = subst (λ (m : ℕ). c.expansion_element-element.result < 2 * m) (sym c.requires.one_degree) c.expansion_element-element.ensures.within

@@ -35,24 +35,24 @@ from_parts-requires g c =
     let start = g.R.Rng.stream c.args.rng.now in
     let h = half_of (length c.args.secret.now) s.degree in
     let made = set_made c.args.secret.now (levels c.args.tested.now) c.levels-levels.result start (g.R.Rng.stream c.make_rotations.new.rng) (g.R.Rng.stream c.make_expansions.new.rng)
-    c.in_ok-rotations.rotations.items c.in_ok-expansions.expansions.items (c.levels-levels.ensures.value ∙ ap levels c.shape-shape.ensures.value)
-    c.in_ok-rotations.ensures.value c.in_ok-rotations.ensures.rest c.in_ok-expansions.ensures.value c.in_ok-expansions.ensures.rest in
+    c.make_rotations.new.keys.items c.make_expansions.new.keys.items (c.levels-levels.ensures.value ∙ ap levels c.shape-shape.ensures.value)
+    c.in_ok-make_rotations.ensures.value c.in_ok-make_rotations.ensures.rest c.in_ok-make_expansions.ensures.value c.in_ok-make_expansions.ensures.rest in
     subst AreKeys (sym (ap (λ (p : Keys × Stream). p.0) made))
     (key_set_draw-AreKeys c.args.secret.now s.degree (levels c.args.tested.now) h (few_by_half c.args.tested.now (length c.args.secret.now) s.degree c.requires c.shape-shape.ensures.room h.exponent h.log) start)
 
 pub returns-clause-value : goal.returns-clause-value
 returns-clause-value g c =
     let made = set_made c.args.secret.now (levels c.args.tested.now) c.levels-levels.result (g.R.Rng.stream c.args.rng.now) (g.R.Rng.stream c.make_rotations.new.rng) (g.R.Rng.stream c.make_expansions.new.rng)
-    c.in_ok-rotations.rotations.items c.in_ok-expansions.expansions.items (c.levels-levels.ensures.value ∙ ap levels c.shape-shape.ensures.value)
-    c.in_ok-rotations.ensures.value c.in_ok-rotations.ensures.rest c.in_ok-expansions.ensures.value c.in_ok-expansions.ensures.rest in
+    c.make_rotations.new.keys.items c.make_expansions.new.keys.items (c.levels-levels.ensures.value ∙ ap levels c.shape-shape.ensures.value)
+    c.in_ok-make_rotations.ensures.value c.in_ok-make_rotations.ensures.rest c.in_ok-make_expansions.ensures.value c.in_ok-make_expansions.ensures.rest in
     c.from_parts.ensures ∙ ap (λ (p : Keys × Stream). p.0) made
 
 pub returns-clause-rest : goal.returns-clause-rest
 returns-clause-rest g c =
     ap (λ (p : Keys × Stream). p.1)
     (set_made c.args.secret.now (levels c.args.tested.now) c.levels-levels.result (g.R.Rng.stream c.args.rng.now) (g.R.Rng.stream c.make_rotations.new.rng) (g.R.Rng.stream c.make_expansions.new.rng)
-    c.in_ok-rotations.rotations.items c.in_ok-expansions.expansions.items (c.levels-levels.ensures.value ∙ ap levels c.shape-shape.ensures.value)
-    c.in_ok-rotations.ensures.value c.in_ok-rotations.ensures.rest c.in_ok-expansions.ensures.value c.in_ok-expansions.ensures.rest)
+    c.make_rotations.new.keys.items c.make_expansions.new.keys.items (c.levels-levels.ensures.value ∙ ap levels c.shape-shape.ensures.value)
+    c.in_ok-make_rotations.ensures.value c.in_ok-make_rotations.ensures.rest c.in_ok-make_expansions.ensures.value c.in_ok-make_expansions.ensures.rest)
 
 pub returns-clause-good : goal.returns-clause-good
 returns-clause-good g c =

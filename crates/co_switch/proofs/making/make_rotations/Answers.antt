@@ -7,7 +7,7 @@ use Rattle.co_switch.proofs.Listing.{no_keys, keys_more}
 use Rattle.co_switch.proofs.making.make_rotations.Goals as goal
 
 pub loop-index-init : goal.loop-index-init
-loop-index-init g c = no_keys c.args.secret.now (rotation_element (length c.args.secret.now)) (g.R.Rng.stream c.args.rng.now) c.in_ok-keys.keys.items c.in_ok-keys.ensures.items
+loop-index-init g c = no_keys c.args.secret.now (rotation_element (length c.args.secret.now)) (g.R.Rng.stream c.args.rng.now) c.args.keys.now.items c.requires.none
 
 pub make_key-requires-clause-within : goal.make_key-requires-clause-within
 make_key-requires-clause-within g c = subst (λ (m : ℕ). c.rotation_element-element.result < 2 * m) (sym c.requires.one_degree) c.rotation_element-element.ensures.within
@@ -18,11 +18,11 @@ loop-index-preserved g c = keys_more _ _ _ _ _ _ _ _ _ _ c.loop-index.invariant 
 pub returns-clause-value : goal.returns-clause-value
 returns-clause-value g c =
     let n = length c.args.secret.now in
-    let all : c.loop-index.index ≡ log2_up (n / 2) = omega (arith, c.log2_up-count.ensures.value) ∙ c.log2_up-count.ensures.value ∙ ap (λ (m : ℕ). log2_up (m / 2)) (sym c.requires.one_degree) in
+    let all : c.loop-index.index ≡ log2_up (n / 2) = omega (arith, c.log2_up-index-end.ensures.value) ∙ c.log2_up-index-end.ensures.value ∙ ap (λ (m : ℕ). log2_up (m / 2)) (sym c.requires.one_degree) in
     ap (λ (p : List Key × Stream). p.0) (c.loop-index.invariant ∙ ap (λ (m : ℕ). keys_draw c.args.secret.now (rotation_element n) m (g.R.Rng.stream c.args.rng.now)) all)
 
 pub returns-clause-rest : goal.returns-clause-rest
 returns-clause-rest g c =
     let n = length c.args.secret.now in
-    let all : c.loop-index.index ≡ log2_up (n / 2) = omega (arith, c.log2_up-count.ensures.value) ∙ c.log2_up-count.ensures.value ∙ ap (λ (m : ℕ). log2_up (m / 2)) (sym c.requires.one_degree) in
+    let all : c.loop-index.index ≡ log2_up (n / 2) = omega (arith, c.log2_up-index-end.ensures.value) ∙ c.log2_up-index-end.ensures.value ∙ ap (λ (m : ℕ). log2_up (m / 2)) (sym c.requires.one_degree) in
     ap (λ (p : List Key × Stream). p.1) (c.loop-index.invariant ∙ ap (λ (m : ℕ). keys_draw c.args.secret.now (rotation_element n) m (g.R.Rng.stream c.args.rng.now)) all)

@@ -1,5 +1,5 @@
 -- One document more is kept, or left out.
-use Rattle.std.proofs.Common.{◌≡◌, ◌≤◌, ◌+◌, ◌∷◌, ◌∙◌, List, ℕ, sym, ap, refl, arith, take, drop, length, get_or}
+use Rattle.std.proofs.Common.{◌≡◌, ◌+◌, ◌∷◌, ◌∙◌, List, ℕ, sym, ap, refl, arith, take, drop, get_or}
 use Rattle.std.specs.Prelude.{fold, map}
 use Rattle.std.specs.BTreeSet.{insert_key}
 use Rattle.std.proofs.lemmas.List.{drop_more}

@@ -1,5 +1,5 @@
 -- One word more is counted.
-use Rattle.std.proofs.Common.{◌≡◌, ◌++◌, ◌+◌, ◌∙◌, ℕ, List, sym, ap, subst, arith, []}
+use Rattle.std.proofs.Common.{◌≡◌, ◌++◌, ◌+◌, ◌∙◌, ℕ, List, sym, ap, subst, arith}
 use Rattle.std.specs.BTreeMap.{get_by_text}
 use Rattle.std.proofs.lemmas.List.{append-nil}
 use Rattle.unicode_segmentation.specs.Iter.{unicode_words_left}

@@ -1,5 +1,5 @@
 -- The words so far are counted.
-use Rattle.std.proofs.Common.{◌≡◌, ℕ, List}
+use Rattle.std.proofs.Common.{ℕ, List}
 use Rattle.std.specs.BTreeMap.{get_by_text}
 use Rattle.unicode_segmentation.specs.Iter.{unicode_words_left}
 use Rattle.co_text.specs.Terms.{terms, terms_of}

@@ -1,5 +1,5 @@
 -- The first polynomial, and the second behind it.
-use Rattle.std.proofs.Common.{◌≡◌, ◌+◌, ◌*◌, ◌++◌, ℕ, sym, subst, arith}
+use Rattle.std.proofs.Common.{◌≡◌, ◌+◌, ◌*◌, ◌++◌, sym, subst, arith}
 use Rattle.co_bfv.specs.Ciphertexts.{Ciphertext}
 use Rattle.co_wire.specs.Bodies.{polynomial_bytes, cipher_bytes}
 use Rattle.co_wire.specs.Parts.{AreInRangeTo, SpellsBetween}

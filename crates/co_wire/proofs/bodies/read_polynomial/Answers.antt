@@ -1,4 +1,5 @@
-use Rattle.std.proofs.Common.{◌≡◌, ◌∙◌, ◌+◌, ◌*◌, ℕ, sym, ap, length, arith}
+use Rattle.std.proofs.Common.{◌≡◌, ◌∙◌, ◌+◌, ◌*◌, ◌%◌, ℕ, refl, sym, ap, length, arith}
+use Rattle.co_wire.proofs.Filled.{more-put}
 use Rattle.co_wire.proofs.Fronts.{range-at}
 use Rattle.co_wire.proofs.Spelled.{polynomial-spelled}
 use Rattle.co_wire.proofs.bodies.read_polynomial.Goals as goal
@@ -17,3 +18,15 @@ returns-clause-read c =
           (λ k l. sym (second.each k (omega (arith, long))) ∙ i.second_put k (omega (arith, c.loop-k-test.false, c.get-k-end.ensures.value))),
       range-at c.args.body.now (c.args.from + 2 * c.loop-k.k) (c.args.from + 2 * n) (ap (λ (k : ℕ). c.args.from + 2 * k) all) i.in_range,
     )
+
+pub read_residue-requires-clause-modulus : goal.read_residue-requires-clause-modulus
+read_residue-requires-clause-modulus c = let even : (c.args.from + 2 * c.loop-k.k) % 2 ≡ 0 = omega (arith, c.requires.even) in rw even refl
+
+pub read_residue-requires-in-loop-k-clause-modulus : goal.read_residue-requires-in-loop-k-clause-modulus
+read_residue-requires-in-loop-k-clause-modulus c = let odd : (c.args.from + 2 * c.loop-k.k + 1) % 2 ≡ 1 = omega (arith, c.requires.even) in rw odd refl
+
+pub loop-k-preserved : goal.loop-k-preserved
+loop-k-preserved c =
+    more-put c.args.degree c.args.body.now c.args.from c.loop-k.k c.loop-k.first c.loop-k.second c.set.new.self c.set-in-loop-k.new.self c.in_ok-residue.residue c.in_ok-residue-2.residue
+    c.loop-k.invariant (omega (arith, c.loop-k-test.true, c.get-k-end.ensures.value)) c.set.ensures c.set-in-loop-k.ensures
+    c.in_ok-residue.ensures.value c.in_ok-residue-2.ensures.value c.in_ok-residue-2.ensures.in_range

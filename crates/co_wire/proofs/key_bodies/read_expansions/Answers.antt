@@ -1,7 +1,7 @@
-use Rattle.std.proofs.Common.{◌≡◌, ◌∙◌, ◌<◌, ◌+◌, ◌*◌, ◌/◌, ◌%◌, ◌^◌, sym, ap, subst, ℕ, arith}
+use Rattle.std.proofs.Common.{length, ◌≡◌, ◌∙◌, ◌<◌, ◌+◌, ◌*◌, ◌/◌, ◌%◌, ◌^◌, sym, ap, subst, ℕ, arith}
 use Rattle.co_switch.specs.Keys.{expansion_element}
 use Rattle.co_switch.proofs.Elements.{half_of, expansion_element-odd, expansion_element-lt}
-use Rattle.co_wire.proofs.Keyed.{two_at_least, one-key}
+use Rattle.co_wire.proofs.Keyed.{two_at_least, part-room, key-even, one-key}
 use Rattle.co_wire.proofs.key_bodies.read_expansions.Goals as goal
 
 pub overflow_shr-n : goal.overflow_shr-n
@@ -25,3 +25,10 @@ loop-j-preserved c =
     one-key n (expansion_element n) c.args.from j c.loop-j.at (c.loop-j.at + 24 * c.get-n.result) c.loop-j.keys.items c.push.new.self.items c.in_ok-key.key c.args.body.now
     c.loop-j.invariant next c.in-Ok.ensures.items (c.in_ok-key.ensures.element ∙ ap (λ (m : ℕ). m / 2 ^ j + 1) c.get-n.ensures.value)
     c.in_ok-key.ensures.degree c.in_ok-key.ensures.key c.in_ok-key.ensures.read.0 c.in_ok-key.ensures.read.1
+
+pub read_key-requires-clause-room : goal.read_key-requires-clause-room
+read_key-requires-clause-room c =
+    part-room (24 * c.args.degree) c.loop-j.j c.loop-j.at c.args.count c.args.from (length c.args.body.now) c.loop-j.invariant.at_is c.loop-j-test.true c.requires.whole
+
+pub read_key-requires-clause-even : goal.read_key-requires-clause-even
+read_key-requires-clause-even c = key-even c.args.degree c.args.from c.loop-j.j c.loop-j.at c.loop-j.invariant.at_is c.requires.even
