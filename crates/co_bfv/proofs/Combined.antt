@@ -32,6 +32,10 @@ tq_positive = omega arith
 pub residues_whole : (n : ℕ) (f : ℤ → ℤ) → IsDegree n → IsWhole (residues_of q n f)
 residues_whole n f d = record { degree = subst IsDegree (sym (length-residues_of q n f)) d; below = residues_of-below q n f (omega arith) }
 
+-- two of them of one degree are a ciphertext
+pub whole_pair : (n : ℕ) (f g : ℤ → ℤ) → IsDegree n → IsCiphertext (record { c0 = residues_of q n f; c1 = residues_of q n g })
+whole_pair n f g d = record { c0 = residues_whole n f d; c1 = residues_whole n g d; one_degree = length-residues_of q n g ∙ sym (length-residues_of q n f) }
+
 module _ (c : Ciphertext) (h : IsCiphertext c) where
   pub positive_degree : 0 < ciphertext_degree c
   positive_degree = degree_positive (length c.c0) h.c0.degree
@@ -151,11 +155,11 @@ combined add made degree are means x y z c d hx hy a b one f g =
       degree = ap ciphertext_degree value ∙ degree c d;
     }
 
-sum-degree : (c d : Ciphertext) → ciphertext_degree (ciphertext_sum c d) ≡ ciphertext_degree c
+pub sum-degree : (c d : Ciphertext) → ciphertext_degree (ciphertext_sum c d) ≡ ciphertext_degree c
 unfolding ciphertext_sum
 sum-degree c d = length-residues_of q (ciphertext_degree c) (plus (coefficients c.c0) (coefficients d.c0))
 
-difference-degree : (c d : Ciphertext) → ciphertext_degree (ciphertext_difference c d) ≡ ciphertext_degree c
+pub difference-degree : (c d : Ciphertext) → ciphertext_degree (ciphertext_difference c d) ≡ ciphertext_degree c
 unfolding ciphertext_difference
 difference-degree c d = length-residues_of q (ciphertext_degree c) (minus (coefficients c.c0) (coefficients d.c0))
 

@@ -40,13 +40,23 @@ length-errors : (n : ℕ) (s : Stream) → length (error_draw n s).0 ≡ n
 unfolding error_draw
 length-errors n s = length-drawn binomial_draw n s
 
+-- a message times Delta, and an error, as polynomials
+abbrev scaled : List ℕ → ℤ → ℤ
+scaled message = coefficients (map delta message)
+
+abbrev error : ℕ → Stream → ℤ → ℤ
+error n s = signed_coefficients (error_draw n s).0
+
+error-wrapped : (n : ℕ) (s : Stream) → 0 < n → IsWrapped n (error n s)
+error-wrapped n s z = signed_to n (error_draw n s).0 z (length-errors n s)
+
 -- a scaled message with an error, from what the steps give
 pub noisy_residues : (message : List ℕ) (k : ℕ) (s : Stream) (ds es xs : List ℕ) → IsDegree (length message) → k ≡ length message → ds ≡ map delta message
-    → es ≡ residues_of q k (signed_coefficients (error_draw k s).0) → AreResidues q (length ds) (plus (coefficients ds) (coefficients es)) xs
-    → AreResidues q (length message) (plus (coefficients (map delta message)) (signed_coefficients (error_draw (length message) s).0)) xs
+    → es ≡ residues_of q k (error k s) → AreResidues q (length ds) (plus (coefficients ds) (coefficients es)) xs
+    → AreResidues q (length message) (plus (scaled message) (error (length message) s)) xs
 noisy_residues message k s ds es xs h e d r x =
-    residues_for q n (plus scaled (coefficients es)) (plus scaled error) xs (omega arith)
-    (λ j u. plus_agree q scaled (coefficients es) scaled error (same scaled) (residues_agree q n error es (omega arith) z (signed_to n (error_draw n s).0 z (length-errors n s)) drawn) (pos j))
+    residues_for q n (plus (scaled message) (coefficients es)) (plus (scaled message) (error n s)) xs (omega arith)
+    (λ j u. plus_agree q (scaled message) (coefficients es) (scaled message) (error n s) (same (scaled message)) (residues_agree q n (error n s) es (omega arith) z (error-wrapped n s z) drawn) (pos j))
     (subst (λ (v : List ℕ). AreResidues q n (plus (coefficients v) (coefficients es)) xs) d
     (subst (λ (j : ℕ). AreResidues q j (plus (coefficients ds) (coefficients es)) xs) (ap length d ∙ length-map message delta) x))
   where
@@ -56,25 +66,19 @@ noisy_residues message k s ds es xs h e d r x =
     z : 0 < n
     z = degree_positive n h
 
-    scaled : ℤ → ℤ
-    scaled = coefficients (map delta message)
-
-    error : ℤ → ℤ
-    error = signed_coefficients (error_draw n s).0
-
-    drawn : AreResidues q n error es
-    drawn = subst (AreResidues q n error) (sym (r ∙ ap (λ j. residues_of q j (signed_coefficients (error_draw j s).0)) e)) (residues_of-are q n error)
+    drawn : AreResidues q n (error n s) es
+    drawn = subst (AreResidues q n (error n s)) (sym (r ∙ ap (λ j. residues_of q j (error j s)) e)) (residues_of-are q n (error n s))
 
 -- c0 of an encryption, from what the steps give
 pub masked_is : (secret : List ℤ) (message us : List ℕ) (s : Stream) (xs hs ys : List ℕ) → IsDegree (length secret) → length message ≡ length secret
-    → AreResidues q (length message) (plus (coefficients (map delta message)) (signed_coefficients (error_draw (length message) s).0)) xs
+    → AreResidues q (length message) (plus (scaled message) (error (length message) s)) xs
     → hs ≡ residues_of q (length secret) (product (length secret) (coefficients us) (signed_coefficients secret))
     → AreResidues q (length xs) (minus (coefficients xs) (coefficients hs)) ys → ys ≡ (encrypted secret message us (error_draw (length secret) s).0).c0
 unfolding encrypted
 masked_is secret message us s xs hs ys h em x m y =
-    residues_of-is q n (minus (plus scaled error) p) ys
-    (residues_for q n (minus (coefficients xs) (coefficients hs)) (minus (plus scaled error) p) ys (omega arith)
-    (λ k u. minus_agree q (coefficients xs) (coefficients hs) (plus scaled error) p sums mask (pos k))
+    residues_of-is q n (minus noisy p) ys
+    (residues_for q n (minus (coefficients xs) (coefficients hs)) (minus noisy p) ys (omega arith)
+    (λ k u. minus_agree q (coefficients xs) (coefficients hs) noisy p sums mask (pos k))
     (subst (λ (j : ℕ). AreResidues q j (minus (coefficients xs) (coefficients hs)) ys) added.len y))
   where
     n : ℕ
@@ -83,22 +87,19 @@ masked_is secret message us s xs hs ys h em x m y =
     z : 0 < n
     z = degree_positive n h
 
-    scaled : ℤ → ℤ
-    scaled = coefficients (map delta message)
-
-    error : ℤ → ℤ
-    error = signed_coefficients (error_draw n s).0
+    noisy : ℤ → ℤ
+    noisy = plus (scaled message) (error n s)
 
     p : ℤ → ℤ
     p = product n (coefficients us) (signed_coefficients secret)
 
-    added : AreResidues q n (plus scaled error) xs
-    added = subst (λ (j : ℕ). AreResidues q j (plus scaled (signed_coefficients (error_draw j s).0)) xs) em x
+    added : AreResidues q n noisy xs
+    added = subst (λ (j : ℕ). AreResidues q j (plus (scaled message) (error j s)) xs) em x
 
-    sums : Agree q (coefficients xs) (plus scaled error)
+    sums : Agree q (coefficients xs) noisy
     sums =
-        residues_agree q n (plus scaled error) xs (omega arith) z
-        (plus-IsWrapped n scaled error (wrapped_to n (map delta message) z (length-map message delta ∙ em)) (signed_to n (error_draw n s).0 z (length-errors n s))) added
+        residues_agree q n noisy xs (omega arith) z
+        (plus-IsWrapped n (scaled message) (error n s) (wrapped_to n (map delta message) z (length-map message delta ∙ em)) (error-wrapped n s z)) added
 
     mask : Agree q (coefficients hs) p
     mask = residues_agree q n p hs (omega arith) z (product-IsWrapped n (coefficients us) (signed_coefficients secret) (signed-IsWrapped secret z)) (subst (AreResidues q n p) (sym m) (residues_of-are q n p))

@@ -20,7 +20,7 @@ use Rattle.co_bfv.specs.Ciphertexts.{Ciphertext, IsCiphertext, ciphertext_degree
 use Rattle.co_math.proofs.Degrees.{degree_positive}
 use Rattle.co_math.proofs.Residue_lists.{residues_of-agree, residues_of-are, residues_of-is, length-residues_of}
 use Rattle.co_bfv.proofs.Meant.{means_more, phases_agree}
-use Rattle.co_bfv.proofs.Combined.{residues_whole, sum_means}
+use Rattle.co_bfv.proofs.Combined.{whole_pair, sum-degree, sum_means}
 use Rattle.co_bfv.specs.Totals.{IsOfDegree, ciphertext_total}
 
 pub ciphertext_total-zero : (n : ℕ) (f : ℕ → Ciphertext) → ciphertext_total n 0 f ≡ zero_ciphertext n
@@ -60,14 +60,7 @@ ciphertext_total-degree n r f = length-residues_of q n (λ k. total r (λ j. coe
 
 pub ciphertext_total-IsCiphertext : (n r : ℕ) (f : ℕ → Ciphertext) → IsDegree n → IsCiphertext (ciphertext_total n r f)
 unfolding ciphertext_total
-ciphertext_total-IsCiphertext n r f d =
-    let x = λ (k : ℤ). total r (λ j. coefficients (f j).c0 k) in
-    let y = λ (k : ℤ). total r (λ j. coefficients (f j).c1 k) in
-    record {
-      c0 = residues_whole n x d;
-      c1 = residues_whole n y d;
-      one_degree = length-residues_of q n y ∙ sym (length-residues_of q n x);
-    }
+ciphertext_total-IsCiphertext n r f d = whole_pair n (λ k. total r (λ j. coefficients (f j).c0 k)) (λ k. total r (λ j. coefficients (f j).c1 k)) d
 
 nothing : ℤ → ℤ
 nothing k = pos 0
@@ -127,7 +120,7 @@ plain_product-IsOfDegree n c xs d e =
     let g = product k (coefficients c.c1) (centred_coefficients xs) in
     let dk : IsDegree k = subst IsDegree (sym e) d in
     record {
-      cipher = record { c0 = residues_whole k f dk; c1 = residues_whole k g dk; one_degree = length-residues_of q k g ∙ sym (length-residues_of q k f) };
+      cipher = whole_pair k f g dk;
       degree = length-residues_of q k f ∙ e;
     }
 
@@ -145,8 +138,7 @@ unfolding ciphertext_sum
 sum-parts n c d e t = record { c0 = residues_of q (e t) (plus (coefficients c.c0) (coefficients d.c0)); c1 = residues_of q (e t) (plus (coefficients c.c1) (coefficients d.c1)) }
 
 pub ciphertext_sum-degree : (n : ℕ) (c d : Ciphertext) → ciphertext_degree c ≡ n → ciphertext_degree (ciphertext_sum c d) ≡ n
-unfolding ciphertext_sum
-ciphertext_sum-degree n c d e = length-residues_of q (ciphertext_degree c) (plus (coefficients c.c0) (coefficients d.c0)) ∙ e
+ciphertext_sum-degree n c d e = sum-degree c d ∙ e
 
 pub ciphertext_sum-IsOfDegree : (n : ℕ) (c d : Ciphertext) → IsDegree n → ciphertext_degree c ≡ n → IsOfDegree n (ciphertext_sum c d)
 unfolding ciphertext_sum
@@ -156,7 +148,7 @@ ciphertext_sum-IsOfDegree n c d deg e =
     let g = plus (coefficients c.c1) (coefficients d.c1) in
     let dk : IsDegree k = subst IsDegree (sym e) deg in
     record {
-      cipher = record { c0 = residues_whole k f dk; c1 = residues_whole k g dk; one_degree = length-residues_of q k g ∙ sym (length-residues_of q k f) };
+      cipher = whole_pair k f g dk;
       degree = length-residues_of q k f ∙ e;
     }
 

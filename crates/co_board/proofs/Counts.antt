@@ -36,16 +36,17 @@ pub sum_below-list : {X : Type 0} (f : X → ℕ) (xs : List X) (d : X) → sum_
 sum_below-list f [] d = refl
 sum_below-list f (x ∷ xs) d = let more = sum_below-list f xs d in sum_below-first (length xs) (λ i. f (get_or (x ∷ xs) i d)) ∙ omega arith
 
-is_one : (k n : ℕ) → k ≡ n → ◌≡◌ {A = ℕ} (if nat_eq k n then 1 else 0) 1
+-- what counts a number, and whether it is below a bound
+pub is_one : (k n : ℕ) → k ≡ n → ◌≡◌ {A = ℕ} (if nat_eq k n then 1 else 0) 1
 is_one k n e = grind (arith, nat_tests)
 
-is_none : (k n : ℕ) → k ≢ n → ◌≡◌ {A = ℕ} (if nat_eq k n then 1 else 0) 0
+pub is_none : (k n : ℕ) → k ≢ n → ◌≡◌ {A = ℕ} (if nat_eq k n then 1 else 0) 0
 is_none k n ne = grind (arith, nat_tests)
 
-inside : (k n : ℕ) → k < n → once_below n k ≡ 1
+pub inside : (k n : ℕ) → k < n → once_below n k ≡ 1
 inside k n h = grind (arith, nat_tests)
 
-outside : (k n : ℕ) → n ≤ k → once_below n k ≡ 0
+pub outside : (k n : ℕ) → n ≤ k → once_below n k ≡ 0
 outside k n h = grind (arith, nat_tests)
 
 same_bound : (n k : ℕ) → k ≢ n → once_below n k ≡ once_below (suc n) k

@@ -10,6 +10,9 @@ use std::alloc::{AllocError, Global};
 use std::collections::LinkedList;
 use std::marker::Model;
 
+/// The most workers of one job: the most passes of a board.
+pub const MOST_WORKERS: u32 = 64;
+
 type View = LinkedList<Hand>;
 
 /// A word that counts up as its passes draw from it, and the number of units.
@@ -22,6 +25,7 @@ pub struct Board {
 impl Model for Board {
     ghost use Rattle.std.specs.Prelude.{◌≡◌, ◌≤◌, ◌^◌};
     ghost use Rattle.co_board.specs.Passes.{BoardValue};
+    ghost use Rattle.co_board.specs.declared.board.TheConstants.{MOST_WORKERS};
 
     ghost Value = { BoardValue };
 
@@ -32,7 +36,7 @@ impl Model for Board {
     } };
 
     ghost invariant = { λ b. (b.units ≡ b.table.shared.key.units) × (b.units ≤ 2 ^ 32)
-        × (1 ≤ b.table.shared.key.seats) × (b.table.shared.key.seats ≤ 64)
+        × (1 ≤ b.table.shared.key.seats) × (b.table.shared.key.seats ≤ MOST_WORKERS)
         × (b.table.shared.table_id.words ≡ 1) × (b.table.shared.table_id.slots ≡ 0) };
 }
 
@@ -92,7 +96,7 @@ impl Board {
     /// A board and its passes, in the order of their numbers.
     pub fn new(alloc: Global, units: u64, seats: u32) -> Result<(Board, Vec<Pass>), AllocError>
         requires units { units ≤ 2 ^ 32 }
-        requires seats { (1 ≤ seats) × (seats ≤ 64) }
+        requires seats { (1 ≤ seats) × (seats ≤ MOST_WORKERS) }
         ensures { IfOk result (λ made. (made.0.units ≡ units) × (made.0.seats ≡ seats)
             × (made.1.items ≡ fresh_passes made.0)) }
     {

@@ -41,7 +41,7 @@ use Rattle.co_client.proofs.Unique.{asked_for, hits-one, records-one}
 use Rattle.co_client.proofs.Trails.{makes-one, score_request, record_request, bin_request, IsTrail, trail-whole, after_scores, after_all}
 use Rattle.co_client.proofs.RecordFaults.{record-refusal, text-refusal}
 use Rattle.co_client.proofs.Told.{AreRowsOf, early-rows, tells-here, tells-all, round-told}
-use Rattle.co_client.proofs.Ends.{keys-whole, Begun, first_of, keys_of, any-rows, any-long}
+use Rattle.co_client.proofs.Ends.{keys-whole, Begun, first_of, keys_of}
 
 -- the scores are read, three exchanges are made, and this is left of the stream
 pub record Scored (run : Search) (was now : Option (List Exchange)) (s : Numbers) (hits : List Ranked) (unknown : List (List ℕ)) (rest : Stream) : Type 0 where

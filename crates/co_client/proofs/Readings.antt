@@ -1,15 +1,12 @@
 -- What is read one step after another, up to the first fault.
-use Rattle.std.proofs.Common.{◌≡◌, ℕ, ◌+◌, ◌*◌, ◌%◌, ◌<◌, ◌≤◌, refl, sym, ap, subst, ◌∙◌, arith, false, ℤ, List, [], ◌∷◌, ◌++◌, length, get_or, take, drop, append_assoc, Option, Some, None, Result, Ok, Err}
-use Rattle.std.proofs.Math.Nat.{mod-lt}
+use Rattle.std.proofs.Common.{◌≡◌, ℕ, ◌+◌, ◌*◌, ◌<◌, ◌≤◌, refl, sym, ap, subst, ◌∙◌, arith, false, ℤ, List, [], ◌∷◌, ◌++◌, length, get_or, take, drop, append_assoc, Option, Some, None, Result, Ok, Err}
 use Rattle.std.proofs.lemmas.List.{append-nil, take_all, drop_all, drop_more}
 use Rattle.std.proofs.lemmas.List.FromFn.{length-map-range_with_len, get_or-map-range_with_len}
-use Rattle.co_math.specs.Degrees.{IsDegree}
 use Rattle.co_link.specs.declared.messages.Target.TheVariants.{Meta, Document}
 use Rattle.co_noise.specs.Shapes.{Numbers}
 use Rattle.co_bfv.specs.Ciphertexts.{Ciphertext}
 use Rattle.co_bucket.specs.Lists.{bucket_count}
-use Rattle.co_bucket.specs.Rows.{records_a_row}
-use Rattle.co_bucket.specs.Bytes.{row_size, record_chunks, record_start}
+use Rattle.co_bucket.specs.Bytes.{record_chunks}
 use Rattle.co_bucket.proofs.Standing.{chunks}
 use Rattle.co_pack.specs.declared.packing.Place.{Place}
 use Rattle.co_pack.specs.declared.records.Record.{Record}

@@ -18,7 +18,8 @@ use Rattle.co_switch.proofs.Drawing.{length-uniform}
 use Rattle.co_wire.specs.Bodies.{polynomial_bytes, cipher_bytes, ciphers_bytes, pairs_bytes, key_bytes, keys_bytes}
 use Rattle.co_rounds.specs.Asked.{encryptions_draw}
 use Rattle.co_client.specs.Rounds.{keys_asked}
-use Rattle.co_client.proofs.Spelled.{polynomial-long, parts-long}
+use Rattle.co_wire.proofs.Good_bodies.{length-polynomial}
+use Rattle.co_client.proofs.Spelled.{parts-long}
 
 -- ---- queries
 
@@ -29,7 +30,7 @@ encryption-size secret m s =
     let c = (encryption_draw secret m s).0 in
     let first : length c.c0 ≡ n = length-residues_of q n _ in
     let second : length c.c1 ≡ n = length-uniform n s in
-    omega (arith, length-append (polynomial_bytes c.c0) (polynomial_bytes c.c1), polynomial-long c.c0, polynomial-long c.c1, first, second)
+    omega (arith, length-append (polynomial_bytes c.c0) (polynomial_bytes c.c1), length-polynomial c.c0, length-polynomial c.c1, first, second)
 
 pub queries-size : (secret : List ℤ) (ms : List (List ℕ)) (s : Stream) → length (ciphers_bytes (encryptions_draw secret ms s).0) ≡ length ms * (28 * length secret)
 unfolding encryptions_draw
@@ -74,8 +75,8 @@ pairs-size n (x ∷ xs) (y ∷ ys) e a b =
       arith,
       length-append (polynomial_bytes x) (polynomial_bytes y ++ pairs_bytes xs ys),
       length-append (polynomial_bytes y) (pairs_bytes xs ys),
-      polynomial-long x,
-      polynomial-long y,
+      length-polynomial x,
+      length-polynomial y,
       All-head P x xs a,
       All-head P y ys b,
       pairs-size n xs ys (omega arith) (All-tail P x xs a) (All-tail P y ys b),

@@ -9,20 +9,14 @@ use Rattle.std.proofs.lemmas.Grind.{flat_map-append}
 use Rattle.std.proofs.Math.Seq.{take-add}
 use Rattle.co_bfv.specs.Ciphertexts.{Ciphertext, IsCiphertext, ciphertext_degree}
 use Rattle.co_bfv.specs.Totals.{ciphertext_at, no_ciphertext}
-use Rattle.co_wire.specs.Bodies.{coefficient_bytes, polynomial_bytes, cipher_bytes, ciphers_bytes, SpellsCiphers}
-use Rattle.co_wire.proofs.One_value.{length-coefficient}
+use Rattle.co_wire.specs.Bodies.{polynomial_bytes, cipher_bytes, ciphers_bytes, SpellsCiphers}
+use Rattle.co_wire.proofs.Good_bodies.{length-polynomial}
 use Rattle.co_client.specs.Openings.{AreSpelled}
 
 -- ---- lengths
 
-pub polynomial-long : (xs : List ℕ) → length (polynomial_bytes xs) ≡ 14 * length xs
-unfolding polynomial_bytes
-polynomial-long [] = refl
-polynomial-long (x ∷ xs) =
-    omega (arith, ap length (flat_map-cons coefficient_bytes x xs), length-append (coefficient_bytes x) (flat_map coefficient_bytes xs), length-coefficient x, polynomial-long xs)
-
 cipher-long : (n : ℕ) (c : Ciphertext) → IsCiphertext c → ciphertext_degree c ≡ n → length (cipher_bytes c) ≡ 28 * n
-cipher-long n c w d = omega (arith, length-append (polynomial_bytes c.c0) (polynomial_bytes c.c1), polynomial-long c.c0, polynomial-long c.c1, w.one_degree, d)
+cipher-long n c w d = omega (arith, length-append (polynomial_bytes c.c0) (polynomial_bytes c.c1), length-polynomial c.c0, length-polynomial c.c1, w.one_degree, d)
 
 ciphers-long : (n : ℕ) (cs : List Ciphertext) → All IsCiphertext cs → All (λ c. ciphertext_degree c ≡ n) cs → All (λ c. length (cipher_bytes c) ≡ 28 * n) cs
 ciphers-long n cs a b i d l = cipher-long n (get_or cs i d) (a i d l) (b i d l)

@@ -4,7 +4,7 @@ use Rattle.std.specs.Prelude.{slice_get, slice_index, slice_index_or}
 use Rattle.std.specs.List.{Contains}
 use Rattle.std.proofs.lemmas.Bool.{cases_lt}
 use Rattle.std.proofs.lemmas.Option.{slice_get-get_or}
-use Rattle.std.proofs.lemmas.List.{ext_get_or, get_or_past, length-map, get_or-map, get_or-take, get_or-drop}
+use Rattle.std.proofs.lemmas.List.{get_or_past, length-map, get_or-map, get_or-take, get_or-drop}
 use Rattle.std.proofs.lemmas.List.Elements.{All-from_get_or}
 use Rattle.std.proofs.lemmas.List.FromFn.{length-map-range_with_len, get_or-map-range_with_len}
 use Rattle.rand_core.specs.Stream.{Stream}
@@ -12,11 +12,8 @@ use Rattle.co_link.specs.declared.messages.Target.TheVariants.{Score, Meta, Docu
 use Rattle.co_link.specs.declared.messages.Exchange.{Exchange}
 use Rattle.co_link.specs.Exchanges.{exchange_of}
 use Rattle.co_math.specs.Parameters.{q, plain_modulus}
-use Rattle.co_math.specs.Residues.{residue}
-use Rattle.co_math.specs.Coefficients.{coefficients, signed_coefficients, AreBelow, AreResidues}
+use Rattle.co_math.specs.Coefficients.{coefficients, signed_coefficients, AreBelow}
 use Rattle.co_math.specs.Logarithms.{log2_up}
-use Rattle.co_math.proofs.Residues.{residue_small}
-use Rattle.co_math.proofs.Terms.{coefficient-low}
 use Rattle.co_noise.specs.Shapes.{Numbers, levels, keyword_blocks as keyword_blocks_of, document_blocks}
 use Rattle.co_noise.specs.Bounds.{score_bound, retrieve_bound, test_of}
 use Rattle.co_bfv.specs.Secrets.{IsTernary}
@@ -57,6 +54,7 @@ use Rattle.co_rounds.specs.Honest.{IsHonest, AreHonest}
 use Rattle.co_rounds.specs.Plans.{FollowsPlan}
 use Rattle.co_rounds.specs.Placing.{choices_of, no_hit, document_at, row_asked}
 use Rattle.co_rounds.specs.Recording.{IsLibraryFor, CanBeOpened, AsksFor, ShowsDocument}
+use Rattle.co_rounds.proofs.Opened.{reduced_own}
 use Rattle.co_rounds.proofs.Rounds.{honest_done, held_are, scores-ciphers, gathered-ciphers, retrieved-ciphers}
 use Rattle.co_rounds.proofs.Recorded.{shows_document}
 use Rattle.co_rounds.proofs.Retrievable.{is-bucket_table, is-bin_table, gathered-at, table_means}
@@ -75,18 +73,10 @@ use Rattle.co_client.proofs.Plainly.{published_same}
 
 -- ---- one ciphertext
 
--- residues of a polynomial with reduced coefficients are its coefficients
-own : (n : ℕ) (xs ys : List ℕ) → length xs ≡ n → AreBelow plain_modulus xs → AreResidues plain_modulus n (coefficients xs) ys → ys ≡ xs
-own n xs ys e b h =
-    ext_get_or 0 ys xs (h.len ∙ sym e)
-    (λ i l.
-    let u : i < length xs = omega (arith, h.len) in
-    h.each i (omega (arith, h.len)) ∙ ap (residue plain_modulus) (coefficient-low xs i u) ∙ residue_small plain_modulus (get_or xs i 0) (b i u))
-
 sure_by : (n : ℕ) (secret : List ℤ) (c : Ciphertext) (message : List ℕ) (b : ℕ) → ciphertext_degree c ≡ n → length message ≡ n → AreBelow plain_modulus message
     → MeansWithin (signed_coefficients secret) c (coefficients message) b → 2 * b < q → IsSure secret c
 sure_by n secret c message b degree long small means room =
-    let same : decrypted secret c ≡ message = own (ciphertext_degree c) message (decrypted secret c) (long ∙ sym degree) small (decrypted_are secret c (coefficients message) b means room) in
+    let same : decrypted secret c ≡ message = reduced_own (ciphertext_degree c) message (decrypted secret c) (long ∙ sym degree) small (decrypted_are secret c (coefficients message) b means room) in
     record { bound = b; means = subst (λ (xs : List ℕ). MeansWithin (signed_coefficients secret) c (coefficients xs) b) (sym same) means; below = room }
 
 -- ---- replies of a retrieval

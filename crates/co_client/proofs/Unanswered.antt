@@ -10,7 +10,6 @@ use Rattle.co_link.specs.declared.messages.Exchange.{Exchange}
 use Rattle.co_client.specs.declared.fault.SearchFault.{SearchFault}
 use Rattle.co_client.specs.declared.fault.SearchFault.TheVariants.{Link, Refused, BadReply, OutOfMemory}
 use Rattle.co_client.specs.Openings.{IsRefusedBody}
-use Rattle.co_client.specs.Published.{public_request, PublicFails}
 use Rattle.co_rounds.specs.Answers.{reply_with}
 use Rattle.co_link.specs.Exchanges.{LinkCall}
 use Rattle.co_client.specs.Rounds.{Comes, Gives, AskFails, RoundFails, LinkFails}

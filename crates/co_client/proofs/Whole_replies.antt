@@ -11,9 +11,9 @@ use Rattle.co_wire.specs.Lengths.{reply_size}
 use Rattle.co_wire.proofs.Good_bodies.{good-list}
 use Rattle.co_rounds.specs.Answers.{Spells}
 use Rattle.co_client.specs.declared.fault.SearchFault.{SearchFault}
-use Rattle.co_client.specs.declared.fault.SearchFault.TheVariants.{Link, OutOfMemory}
+use Rattle.co_client.specs.declared.fault.SearchFault.TheVariants.{Link}
 use Rattle.co_client.specs.Openings.{IsBadReply}
-use Rattle.co_client.specs.Earlier.{taken, begun}
+use Rattle.co_client.specs.Earlier.{begun}
 
 -- a body that spells ciphertexts is not refused
 pub spells_well : (n count size : ℕ) (body : List ℕ) (place : ℕ) → Spells n count body → size ≡ count * (28 * n) → IsBadReply size body place → ⊥

@@ -18,7 +18,7 @@ use Rattle.co_bucket.specs.Bytes.{record_chunks}
 use Rattle.co_bucket.specs.Placement.{IsPlacement}
 use Rattle.co_pack.specs.declared.records.Record.{Record}
 use Rattle.co_text.specs.declared.found.Found.{Found}
-use Rattle.co_text.specs.declared.limits.TheConstants.{MAX_KEYWORDS}
+use Rattle.co_text.specs.declared.limits.TheConstants.{MOST_KEYWORDS}
 use Rattle.co_text.specs.declared.ranks.Ranked.{Ranked}
 use Rattle.co_text.specs.Ranking.{ranking}
 use Rattle.co_text.specs.Numbers.{numbers_of, unknown_in}
@@ -188,7 +188,7 @@ pub record HasBadText (r : Search) (es : List Exchange) (fault : SearchFault) : 
 
 -- the cause of each refusal; want of memory is free
 abbrev pub IsCause : Search → List Exchange → SearchFault → Type 0
-IsCause r es (TooManyKeywords found) = (MAX_KEYWORDS < length (distinct r.query))
+IsCause r es (TooManyKeywords found) = (MOST_KEYWORDS < length (distinct r.query))
     × (found ≡ min (length (distinct r.query)) 4294967295) × (es ≡ [])
 IsCause r es (BadPublic place) = HasBadPublic es place
 IsCause r es (Test fault) = FailsTest es fault

@@ -1,6 +1,6 @@
 -- Answers that are read as wanted.
 use Rattle.std.specs.Prelude.{◌≡◌, ◌<◌, ◌≤◌, ℕ, min, Bool, true, false, Result, Ok, Err}
-use Rattle.co_text.specs.declared.limits.TheConstants.{MAX_KEYWORDS}
+use Rattle.co_text.specs.declared.limits.TheConstants.{MOST_KEYWORDS}
 use Rattle.co_client.specs.declared.fault.SearchFault.{SearchFault}
 use Rattle.co_client.specs.declared.fault.SearchFault.TheVariants.{TooManyKeywords, OutOfMemory}
 
@@ -18,7 +18,7 @@ IsReadAs (Err fault) wanted = is_want fault ≡ false → wanted ≡ Err fault
 -- of 32 bits; want of memory is free
 abbrev pub IsManyTerms : ℕ → SearchFault → Type 0
 IsManyTerms number (TooManyKeywords found) =
-    (MAX_KEYWORDS < number) × (found ≡ min number 4294967295)
+    (MOST_KEYWORDS < number) × (found ≡ min number 4294967295)
 IsManyTerms number OutOfMemory = Unit {0}
 IsManyTerms number fault = ⊥
 
@@ -27,4 +27,4 @@ IsManyTerms number fault = ⊥
 abbrev pub IsForFew : {X : Type 0} → ℕ → Result X SearchFault → Type 0
 IsForFew number (Err (TooManyKeywords found)) = Unit {0}
 IsForFew number (Err OutOfMemory) = Unit {0}
-IsForFew number result = number ≤ MAX_KEYWORDS
+IsForFew number result = number ≤ MOST_KEYWORDS

@@ -3,7 +3,7 @@ use Rattle.std.specs.Prelude.{◌≡◌, ℕ, ◌<◌, List, length, Result, Ok,
 use Rattle.co_noise.specs.Bounds.{test_of}
 use Rattle.co_text.specs.Terms.{distinct}
 use Rattle.co_text.specs.declared.found.Found.{Found}
-use Rattle.co_text.specs.declared.limits.TheConstants.{MAX_KEYWORDS}
+use Rattle.co_text.specs.declared.limits.TheConstants.{MOST_KEYWORDS}
 use Rattle.co_text.specs.declared.ranks.Ranked.{Ranked}
 use Rattle.co_text.specs.Ranking.{ranking}
 use Rattle.co_corpus.specs.declared.documents.Document.{Document}
@@ -30,7 +30,7 @@ AnswersPlainly documents settings l query pick (Ok f) =
 AnswersPlainly documents settings l query pick (Err (NoPlacement items buckets)) =
     IsUnplaced l.shape (plain_hits documents settings query) items buckets
 AnswersPlainly documents settings l query pick (Err (TooManyKeywords number)) =
-    MAX_KEYWORDS < length (distinct query)
+    MOST_KEYWORDS < length (distinct query)
 AnswersPlainly documents settings l query pick (Err (Test fault)) = test_of l.shape ≡ Err fault
 AnswersPlainly documents settings l query pick (Err (Refused target status)) = status ≡ 503
 AnswersPlainly documents settings l query pick (Err Link) = Unit {0}

@@ -3,6 +3,7 @@
 ghost use Rattle.std.specs.Prelude.{◌≡◌, ◌+◌, ◌*◌, ◌<◌, ◌≤◌, true, ℕ, List, Option, Some, None, Ok, length, map, IfOk, IfErr, OnOk};
 ghost use Rattle.std.specs.List.{All, position};
 ghost use Rattle.co_link.specs.declared.messages.Target.TheVariants as targets;
+ghost use Rattle.co_noise.specs.Limits.{most_hits};
 ghost use Rattle.co_bucket.specs.Lists.{bucket_count};
 ghost use Rattle.co_bucket.specs.Rows as rows_specs;
 ghost use Rattle.co_bucket.specs.Bytes as layouts;
@@ -237,7 +238,7 @@ fn read_records(
 ) -> Result<Listed<Record>, SearchFault>
     requires whole { length body.now ≡ reply_size reader.now.shape targets.Meta }
     requires placed { HaveBuckets reader.now.shape hits.now placed.now }
-    requires few { length hits.now ≤ 64 }
+    requires few { length hits.now ≤ most_hits }
     requires places { places.now ≡ places_asked reader.now.shape hits.now placed.now }
     ensures read { (cs : List Ciphertext) (all : ℕ) → SpellsCiphers reader.now.shape.degree
         all cs body.now

@@ -2,10 +2,11 @@
 
 ghost use Rattle.std.specs.Prelude.{◌≡◌, ◌≤◌, ℕ, List, All, Option, Some, true, length, Ok, IfOk, IfErr};
 ghost use Rattle.co_text.specs.Terms.{terms, distinct};
-ghost use Rattle.co_text.specs.declared.limits.TheConstants.{MAX_KEYWORDS};
+ghost use Rattle.co_text.specs.declared.limits.TheConstants.{MOST_KEYWORDS};
 ghost use Rattle.co_link.specs.declared.messages.Exchange.{Exchange};
 ghost use Rattle.co_link.specs.declared.messages.Target.TheVariants as targets;
 ghost use Rattle.co_bfv.specs.Ciphertexts.{Ciphertext};
+ghost use Rattle.co_noise.specs.Limits.{most_hits};
 ghost use Rattle.co_noise.specs.Shapes.{Numbers};
 ghost use Rattle.co_noise.specs.Bounds.{test_of};
 ghost use Rattle.co_corpus.specs.declared.documents.Document.{Document};
@@ -43,7 +44,7 @@ use std::alloc::{AllocError, Global};
 /// The distinct terms of a query.
 fn keywords_of(alloc: Global, query: &str) -> Result<Terms, SearchFault>
     ensures found { IfOk result (λ found. found ≡ distinct (terms query.now)) }
-    ensures few { IfOk result (λ found. length found ≤ MAX_KEYWORDS) }
+    ensures few { IfOk result (λ found. length found ≤ MOST_KEYWORDS) }
     ensures refused { IfErr result (IsManyTerms (length (distinct (terms query.now)))) }
 {
     match query_terms(alloc, query) {
@@ -165,7 +166,7 @@ pub fn search<K: Link, R: Rng>(
     query: &str,
     pick: u32,
 ) -> Result<Found, SearchFault>
-    requires pick { (1 ≤ pick) × (pick ≤ 64) }
+    requires pick { (1 ≤ pick) × (pick ≤ most_hits) }
     requires ready { K.is_ready link.old ≡ true }
     // Over any link, one that doesn't tell its exchanges too: all that the search tells of those
     // that it made.

@@ -1,9 +1,7 @@
 -- Which random words a search over a library takes.
-use Rattle.std.proofs.Common.{◌≡◌, ℕ, List, [], ◌∷◌, length, Option, None, Ok, Err, sym, ap, subst, ◌∙◌, arith}
+use Rattle.std.proofs.Common.{◌≡◌, ℕ, List, [], ◌∷◌, length, None, Ok, Err, sym, ap, subst, ◌∙◌, arith}
 use Rattle.std.specs.Prelude.{Result, IfOk, IfErr, slice_get, slice_index_or}
-use Rattle.std.specs.List.{range_with_len}
 use Rattle.std.proofs.lemmas.List.{length-map, nil_from_length}
-use Rattle.std.proofs.lemmas.List.FromFn.{length-range_with_len}
 use Rattle.rand_core.specs.Stream.{Stream}
 use Rattle.co_link.specs.declared.messages.Target.TheVariants.{Public}
 use Rattle.co_link.specs.declared.messages.Exchange.{Exchange}
@@ -12,13 +10,11 @@ use Rattle.co_noise.specs.Bounds.{test_of}
 use Rattle.co_bucket.specs.Lists.{bucket_count}
 use Rattle.co_text.specs.Numbers.{numbers_of}
 use Rattle.co_text.specs.declared.found.Found.{Found}
-use Rattle.co_text.specs.declared.ranks.Ranked.{Ranked}
 use Rattle.co_wire.specs.Public.{public_of}
 use Rattle.co_library.specs.Libraries.{Parts, IsLibrary}
 use Rattle.co_rounds.specs.Honest.{AreHonest, IsHonest, held_after}
 use Rattle.co_rounds.specs.Plans.{Seen, trace, plan, IsWholePlan}
 use Rattle.co_rounds.specs.Asked.{IsAsked}
-use Rattle.co_rounds.specs.Placing.{row_asked, rows_asked}
 use Rattle.co_rounds.proofs.Rounds.{public_told}
 use Rattle.co_client.specs.Causes.{Search, Publishes, IsRead, IsCause, IsAnswered, Asks}
 use Rattle.co_client.specs.Going.{GoesOn}

@@ -25,14 +25,14 @@ use Rattle.co_commands.proofs.Searching.{local_due, local_placed}
 use Rattle.co_commands.proofs.Serves.{serve_due}
 use Rattle.co_commands.proofs.Rehearsing.{rehearse_due}
 use Rattle.co_commands.proofs.Remotes.{search_due, search_placed}
-use Rattle.co_commands.specs.declared.limits.TheConstants.{MAX_CORPUS}
+use Rattle.co_commands.specs.declared.limits.TheConstants.{LARGEST_CORPUS}
 use Rattle.co_commands.specs.declared.refusals.Refusal.{Refusal}
 use Rattle.co_commands.specs.declared.refusals.Refusal.TheVariants.{Corpus, CorpusTooLong, Publish, Test, Keywords, Search, File, Output, Memory}
 use Rattle.co_commands.specs.Words.{Spoken, SpokenPlain, SpokenImport, SpokenShape, SpokenLocal, SpokenServe, SpokenSearch, SpokenRehearse, SpokenWrong, PlainWords, ImportWords, spoken}
 use Rattle.co_commands.specs.declared.words.Command.{Command}
 use Rattle.co_commands.specs.Commands.{command_shown}
 use Rattle.co_commands.specs.Outside.{Outside, FilesState, SinkState, HasNoFault}
-use Rattle.co_commands.specs.Access.{UnreadCause, Puts}
+use Rattle.co_commands.specs.Access.{Puts}
 use Rattle.co_commands.specs.Refusals.{status_of, status_of_publishing, status_of_search, text_of, Says, Finishes}
 use Rattle.co_commands.specs.Searches.{HasCorpus, IsToldCorpus, ReadCause, TextCause, CanBeSearched}
 use Rattle.co_commands.specs.Imports.{CanBeImported}
@@ -79,7 +79,7 @@ read_due : (name : List ℕ) (was is : FilesState) (documents : List Document) (
 read_due name was is documents (Corpus fault) told kept cause =
     absurd (differ documents fault (corpus_of cause.bytes) (read_as was.held name documents told cause.bytes (cause.file.stands told.told)) cause.read)
 read_due name was is documents CorpusTooLong told kept cause =
-    absurd (omega (arith, told.corpus.file.fits, subst (IsLonger MAX_CORPUS) (told.corpus.file.stands told.told) (cause told.told)))
+    absurd (omega (arith, told.corpus.file.fits, subst (IsLonger LARGEST_CORPUS) (told.corpus.file.stands told.told) (cause told.told)))
 read_due name was is documents (File Read) told kept cause = absurd (kept cause.rose)
 read_due name was is documents Memory told kept cause = refl
 read_due name was is documents refusal told kept cause = absurd cause

@@ -25,7 +25,7 @@ use Rattle.co_commands.specs.Refusals.{status_of, status_of_refused}
 use Rattle.co_commands.specs.Generator.{documents_of, queries_of}
 use Rattle.co_commands.specs.Locals.{IsSearched}
 use Rattle.co_commands.specs.Rehearsals.{rehearse_settings, IsMadeLibrary, words_asked, plain_text, Trial, is_printed_as, agrees, has_no_placement, is_unplaced, IsTrial, AreTrials, passing, rehearse_lines, RehearseAnswer, StopsAt, RehearseCause, CanBeRehearsed}
-use Rattle.co_commands.specs.Trials.{ReadyCause, IsJudged, JudgeCause, tally_of, tallied, IsTried, AreTriedFor, AreTried, StopCause}
+use Rattle.co_commands.specs.Trials.{IsJudged, JudgeCause, tally_of, tallied, IsTried, AreTriedFor, AreTried, StopCause}
 use Rattle.co_commands.specs.declared.words.RehearseCommand.{RehearseCommand}
 use Rattle.co_commands.specs.declared.rehearse.Tally.{Tally}
 use Rattle.co_commands.specs.declared.refusals.Refusal.{Refusal}

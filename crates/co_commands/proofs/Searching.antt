@@ -29,16 +29,15 @@ use Rattle.co_client.specs.Telling.{Tells, Told}
 use Rattle.co_client.specs.Plain.{AnswersPlainly, plain_hits}
 use Rattle.co_client.specs.declared.fault.SearchFault.{SearchFault}
 use Rattle.co_client.specs.declared.fault.SearchFault.TheVariants as searching
-use Rattle.co_commands.specs.declared.limits.TheConstants.{MAX_LIBRARY}
+use Rattle.co_commands.specs.declared.limits.TheConstants.{LARGEST_LIBRARY}
 use Rattle.co_commands.specs.declared.refusals.Refusal.{Refusal}
 use Rattle.co_commands.specs.declared.refusals.Refusal.TheVariants.{Library, LibraryTooLong, Test, Search as Unsearched, File, Output, Memory}
 use Rattle.co_commands.specs.Words.{SpokenLocal, LocalWords, joined}
 use Rattle.co_commands.specs.Outside.{Outside, FilesState, HasNoFault}
-use Rattle.co_commands.specs.Access.{UnreadCause}
 use Rattle.co_commands.specs.Refusals.{status_of, status_of_refused}
 use Rattle.co_commands.specs.Imports.{HasImport}
 use Rattle.co_commands.specs.Locals.{HasLibraryFile, CanBeServed, OpenCause, search_for, IsSearched, Searched, HasFound, FindCause, Finds, IsShown, LocalAnswer, LocalCause, LocalDue}
-use Rattle.co_commands.specs.Runs.{Uses, Answered, RefusedBy}
+use Rattle.co_commands.specs.Runs.{Answered, RefusedBy}
 use Rattle.co_client.proofs.Told.{told-at}
 use Rattle.co_client.proofs.Tells_plainly.{tells_plainly}
 use Rattle.co_commands.proofs.Drawing.{is_drawn}
@@ -154,7 +153,7 @@ open_due : (name : List ℕ) (was is : FilesState) (documents : List Document) (
 open_due name was is documents settings library (Library place) i passes kept cause =
     absurd (differ library place (library_in cause.bytes) (imported was.held name cause.bytes documents settings library cause.file.stands i) cause.read)
 open_due name was is documents settings library LibraryTooLong i passes kept cause =
-    let long : MAX_LIBRARY < length (library_bytes library) = subst (IsLonger MAX_LIBRARY) i.stands (cause (tells was.held name (library_bytes library) i.stands)) in
+    let long : LARGEST_LIBRARY < length (library_bytes library) = subst (IsLonger LARGEST_LIBRARY) i.stands (cause (tells was.held name (library_bytes library) i.stands)) in
     absurd (omega (arith, long, file_few library i.of_corpus.built.good))
 open_due name was is documents settings library (Test fault) i passes kept cause =
     let same = same_library was.held name documents settings cause.library library cause.file i in

@@ -11,7 +11,7 @@ use Rattle.co_noise.specs.Bounds.{test_of}
 use Rattle.co_serving.specs.declared.ended.Served.{Served}
 use Rattle.co_library.specs.Libraries.{Parts}
 use Rattle.co_library.specs.Files.{library_in}
-use Rattle.co_commands.specs.declared.limits.TheConstants.{MAX_LIBRARY}
+use Rattle.co_commands.specs.declared.limits.TheConstants.{LARGEST_LIBRARY}
 use Rattle.co_commands.specs.declared.refusals.Refusal.{Refusal}
 use Rattle.co_commands.specs.declared.refusals.Refusal.TheVariants.{Library, LibraryTooLong, Test, File, Port, Output, Memory}
 use Rattle.co_commands.specs.Words.{SpokenServe, ServeWords}
@@ -181,7 +181,7 @@ opened_due name was is library (Library place) told served kept cause =
     let same = told_bytes was.held name cause.bytes served.file.bytes cause.file.stands (served.file.file.stands told) in
     absurd (differ library place (library_in cause.bytes) (ap library_in same ∙ served.file.read) cause.read)
 opened_due name was is library LibraryTooLong told served kept cause =
-    let long : MAX_LIBRARY < length served.file.bytes = subst (IsLonger MAX_LIBRARY) (served.file.file.stands told) (cause told) in
+    let long : LARGEST_LIBRARY < length served.file.bytes = subst (IsLonger LARGEST_LIBRARY) (served.file.file.stands told) (cause told) in
     absurd (omega (arith, long, served.file.file.fits))
 opened_due name was is library (Test fault) told served kept cause =
     let same = told_bytes was.held name cause.file.bytes served.file.bytes cause.file.file.stands (served.file.file.stands told) in

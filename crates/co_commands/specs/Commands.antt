@@ -1,8 +1,9 @@
 -- What the program's own types stand for.
 use Rattle.std.specs.Prelude.{◌≤◌, ℕ, List, map, option_map, String, string_bytes}
 use Rattle.std.specs.Borrow.{Bor}
+use Rattle.co_board.specs.declared.board.TheConstants.{MOST_WORKERS}
 use Rattle.co_commands.specs.Words.{Rest, PlainWords, ImportWords, LocalWords, ServeWords, SearchWords, Spoken, SpokenPlain, SpokenImport, SpokenShape, SpokenLocal, SpokenServe, SpokenSearch, SpokenRehearse, SpokenWrong}
-use Rattle.co_commands.specs.declared.limits.TheConstants.{MAX_PICK, MAX_WORKERS}
+use Rattle.co_commands.specs.declared.limits.TheConstants.{LAST_PICK}
 use Rattle.co_commands.specs.declared.options.OptionsAndQuery.{OptionsAndQuery}
 use Rattle.co_commands.specs.declared.words.PlainCommand.{PlainCommand}
 use Rattle.co_commands.specs.declared.words.ImportCommand.{ImportCommand}
@@ -61,25 +62,25 @@ command_shown Wrong = SpokenWrong
 -- the pick and the workers of a search over a library are 1 to 64
 pub record IsWithinRanges (l : LocalCommand) : Type 0 where
   pub least_pick : 1 ≤ l.pick
-  pub most_pick : l.pick ≤ MAX_PICK
+  pub most_pick : l.pick ≤ LAST_PICK
   pub least_workers : 1 ≤ l.workers
-  pub most_workers : l.workers ≤ MAX_WORKERS
+  pub most_workers : l.workers ≤ MOST_WORKERS
 
 -- a library is served on at least one connection, by 1 to 64 workers
 pub record IsWithinServing (s : ServeCommand) : Type 0 where
   pub least_connections : 1 ≤ s.connections
   pub least_workers : 1 ≤ s.workers
-  pub most_workers : s.workers ≤ MAX_WORKERS
+  pub most_workers : s.workers ≤ MOST_WORKERS
 
 -- the pick of a search over a dial is 1 to 64
 pub record IsWithinSearching (s : SearchCommand) : Type 0 where
   pub least : 1 ≤ s.pick
-  pub most : s.pick ≤ MAX_PICK
+  pub most : s.pick ≤ LAST_PICK
 
 -- the workers of a rehearsal are 1 to 64
 pub record IsWithinRehearsals (r : RehearseCommand) : Type 0 where
   pub least : 1 ≤ r.workers
-  pub most : r.workers ≤ MAX_WORKERS
+  pub most : r.workers ≤ MOST_WORKERS
 
 -- those of the command, where it is one
 abbrev pub AreWithinRanges : Command → Type 0

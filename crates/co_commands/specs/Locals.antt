@@ -9,7 +9,7 @@ use Rattle.co_text.specs.Terms.{terms}
 use Rattle.co_text.specs.Numbers.{numbers_of}
 use Rattle.co_text.specs.Printed.{printed}
 use Rattle.co_text.specs.declared.found.Found.{Found}
-use Rattle.co_text.specs.declared.limits.TheConstants.{MAX_KEYWORDS}
+use Rattle.co_text.specs.declared.limits.TheConstants.{MOST_KEYWORDS}
 use Rattle.co_corpus.specs.declared.documents.Document.{Document}
 use Rattle.co_bucket.specs.Lists.{bucket_count}
 use Rattle.co_library.specs.declared.settings.Settings.{Settings}
@@ -24,7 +24,7 @@ use Rattle.co_client.specs.Telling.{Tells}
 use Rattle.co_client.specs.Plain.{AnswersPlainly, plain_hits}
 use Rattle.co_client.specs.declared.fault.SearchFault.{SearchFault}
 use Rattle.co_client.specs.declared.fault.SearchFault.TheVariants as searching
-use Rattle.co_commands.specs.declared.limits.TheConstants.{MAX_LIBRARY}
+use Rattle.co_commands.specs.declared.limits.TheConstants.{LARGEST_LIBRARY}
 use Rattle.co_commands.specs.Words.{LocalWords, joined}
 use Rattle.co_commands.specs.Outside.{FilesState}
 use Rattle.co_commands.specs.Access.{HasLongFile, HasReading, UnreadCause}
@@ -37,11 +37,11 @@ use Rattle.co_commands.specs.declared.refusals.Refusal.TheVariants as refusals
 
 -- the file of a library
 abbrev pub HasLibraryFile : Option Folder → List ℕ → Parts → Type 0
-HasLibraryFile held name library = HasReading MAX_LIBRARY held name library_in (Ok library)
+HasLibraryFile held name library = HasReading LARGEST_LIBRARY held name library_in (Ok library)
 
 -- the file isn't a library: the first field that is wrong or not whole is at this place
 abbrev pub HasWrongFile : Option Folder → List ℕ → ℕ → Type 0
-HasWrongFile held name place = HasReading MAX_LIBRARY held name library_in (Err place)
+HasWrongFile held name place = HasReading LARGEST_LIBRARY held name library_in (Err place)
 
 -- the file of a library that passes the test
 pub record CanBeServed (held : Option Folder) (name : List ℕ) (library : Parts) : Type 0 where
@@ -58,7 +58,7 @@ pub record HasNoRoom (held : Option Folder) (name : List ℕ) (fault : TestFault
 abbrev pub OpenCause : List ℕ → FilesState → FilesState → Refusal → Type 0
 OpenCause name was is (refusals.Test fault) = HasNoRoom was.held name fault
 OpenCause name was is (refusals.Library place) = HasWrongFile was.held name place
-OpenCause name was is refusals.LibraryTooLong = HasLongFile MAX_LIBRARY was.held name
+OpenCause name was is refusals.LibraryTooLong = HasLongFile LARGEST_LIBRARY was.held name
 OpenCause name was is refusal = UnreadCause name was is refusal
 
 -- ---- the search
@@ -163,7 +163,7 @@ pub record LocalDue (p : LocalWords) (held : Option Folder) (status : ℕ) : Typ
   pub library : Parts
   pub file : HasImport held p.library documents settings library
   pub passes : test_of library.shape ≡ Ok library.shape
-  pub few : length (query_of p.query) ≤ MAX_KEYWORDS
+  pub few : length (query_of p.query) ≤ MOST_KEYWORDS
   pub placed : CanBePlaced library.shape (plain_hits documents settings (terms (joined p.query)))
       → status ≡ 0
   pub unplaced : (¬ CanBePlaced library.shape

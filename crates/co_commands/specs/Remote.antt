@@ -8,7 +8,7 @@ use Rattle.co_noise.specs.Bounds.{test_of}
 use Rattle.co_text.specs.Terms.{terms}
 use Rattle.co_text.specs.Printed.{printed}
 use Rattle.co_text.specs.declared.found.Found.{Found}
-use Rattle.co_text.specs.declared.limits.TheConstants.{MAX_KEYWORDS}
+use Rattle.co_text.specs.declared.limits.TheConstants.{MOST_KEYWORDS}
 use Rattle.co_corpus.specs.declared.documents.Document.{Document}
 use Rattle.co_library.specs.declared.settings.Settings.{Settings}
 use Rattle.co_library.specs.Libraries.{Parts}
@@ -117,7 +117,7 @@ pub record SearchDue (p : SearchWords) (is : DialState) (status : ℕ) : Type 0 
   pub held : Option (List ℕ)
   pub honest : AreHonest library held exchanges
   pub passes : test_of library.shape ≡ Ok library.shape
-  pub few : length (query_of p.query) ≤ MAX_KEYWORDS
+  pub few : length (query_of p.query) ≤ MOST_KEYWORDS
   pub placed : CanBePlaced library.shape (plain_hits documents settings (terms (joined p.query)))
       → status ≡ 0
   pub unplaced : (¬ CanBePlaced library.shape

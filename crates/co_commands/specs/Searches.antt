@@ -3,7 +3,7 @@ use Rattle.std.specs.Prelude.{◌≡◌, ◌<◌, ◌≤◌, ℕ, min, List, len
 use Rattle.co_link.specs.Files.{Folder}
 use Rattle.co_text.specs.Terms.{terms, distinct}
 use Rattle.co_text.specs.Printed.{printed}
-use Rattle.co_text.specs.declared.limits.TheConstants.{MAX_KEYWORDS}
+use Rattle.co_text.specs.declared.limits.TheConstants.{MOST_KEYWORDS}
 use Rattle.co_corpus.specs.Reading.{corpus_of}
 use Rattle.co_corpus.specs.declared.documents.Document.{Document}
 use Rattle.co_corpus.specs.declared.reading.CorpusFault.{CorpusFault}
@@ -11,7 +11,7 @@ use Rattle.co_tfidf.specs.Found.{found}
 use Rattle.co_library.specs.Settings.{wrong_setting}
 use Rattle.co_library.specs.declared.settings.Settings.{Settings}
 use Rattle.co_library.specs.declared.publishing.PublishFault.TheVariants.{Setting}
-use Rattle.co_commands.specs.declared.limits.TheConstants.{MAX_CORPUS, DEFAULT_DEGREE, DEFAULT_SALT, DEFAULT_CHUNKS}
+use Rattle.co_commands.specs.declared.limits.TheConstants.{LARGEST_CORPUS, DEFAULT_DEGREE, DEFAULT_SALT, DEFAULT_CHUNKS}
 use Rattle.co_commands.specs.Words.{PlainWords, joined}
 use Rattle.co_commands.specs.Outside.{FilesState}
 use Rattle.co_commands.specs.Access.{HasLongFile, HasReading, UnreadCause}
@@ -22,16 +22,16 @@ use Rattle.co_commands.specs.declared.refusals.Refusal.TheVariants.{Corpus, Corp
 
 -- the file of a corpus, with the documents that it reads as
 abbrev pub HasCorpus : Option Folder → List ℕ → List Document → Type 0
-HasCorpus held name documents = HasReading MAX_CORPUS held name corpus_of (Ok documents)
+HasCorpus held name documents = HasReading LARGEST_CORPUS held name corpus_of (Ok documents)
 
 -- the file isn't a corpus, by this fault
 abbrev pub HasFault : Option Folder → List ℕ → CorpusFault → Type 0
-HasFault held name fault = HasReading MAX_CORPUS held name corpus_of (Err fault)
+HasFault held name fault = HasReading LARGEST_CORPUS held name corpus_of (Err fault)
 
 -- why the corpus of a file isn't given; want of memory has no cause
 abbrev pub ReadCause : List ℕ → FilesState → FilesState → Refusal → Type 0
 ReadCause name was is (Corpus fault) = HasFault was.held name fault
-ReadCause name was is CorpusTooLong = HasLongFile MAX_CORPUS was.held name
+ReadCause name was is CorpusTooLong = HasLongFile LARGEST_CORPUS was.held name
 ReadCause name was is refusal = UnreadCause name was is refusal
 
 -- the file is told, and is a corpus
@@ -59,13 +59,13 @@ plain_settings p = record {
 -- the text of what is found in these documents, by good settings and at most sixteen keywords
 pub record HasText (p : PlainWords) (documents : List Document) (text : List ℕ) : Type 0 where
   pub settings : wrong_setting (plain_settings p) ≡ None
-  pub few : length (query_of p.query) ≤ MAX_KEYWORDS
+  pub few : length (query_of p.query) ≤ MOST_KEYWORDS
   pub is : text ≡ printed (found p.terms documents p.hits (query_of p.query) p.pick)
 
 -- by good settings the query has so many terms, which are too many
 pub record HasManyKeywords (p : PlainWords) (number : ℕ) : Type 0 where
   pub settings : wrong_setting (plain_settings p) ≡ None
-  pub many : MAX_KEYWORDS < length (query_of p.query)
+  pub many : MOST_KEYWORDS < length (query_of p.query)
   pub number_is : number ≡ min (length (query_of p.query)) 4294967295
 
 -- why there is no such text; want of memory has no cause
@@ -100,4 +100,4 @@ pub record CanBeSearched (p : PlainWords) (held : Option Folder) : Type 0 where
   pub documents : List Document
   pub corpus : IsToldCorpus held p.corpus documents
   pub settings : wrong_setting (plain_settings p) ≡ None
-  pub few : length (query_of p.query) ≤ MAX_KEYWORDS
+  pub few : length (query_of p.query) ≤ MOST_KEYWORDS

@@ -11,7 +11,8 @@ use Rattle.co_commands.specs.declared.options.Options.{Options}
 use Rattle.co_commands.specs.declared.options.OptionName.{OptionName}
 use Rattle.co_commands.specs.declared.options.OptionName.TheVariants.{Degree, Terms, Hits, Salt, Chunks, Pick, Workers, Port, Connections}
 use Rattle.co_commands.specs.declared.words.RehearseCommand.{RehearseCommand}
-use Rattle.co_commands.specs.declared.limits.TheConstants.{DEFAULT_DEGREE, DEFAULT_TERMS, DEFAULT_HITS, DEFAULT_SALT, DEFAULT_CHUNKS, DEFAULT_PICK, DEFAULT_WORKERS, DEFAULT_PORT, DEFAULT_CONNECTIONS, MAX_PICK, MAX_WORKERS, MAX_PORT, MAX_CONNECTIONS, SHORT_DIGITS}
+use Rattle.co_board.specs.declared.board.TheConstants.{MOST_WORKERS}
+use Rattle.co_commands.specs.declared.limits.TheConstants.{DEFAULT_DEGREE, DEFAULT_TERMS, DEFAULT_HITS, DEFAULT_SALT, DEFAULT_CHUNKS, DEFAULT_PICK, DEFAULT_WORKERS, DEFAULT_PORT, DEFAULT_CONNECTIONS, LAST_PICK, LAST_PORT, MOST_CONNECTIONS, SHORT_DIGITS}
 
 -- one to so many decimal digits
 abbrev pub are_digits : ℕ → List ℕ → Bool
@@ -179,23 +180,23 @@ number_within given usual most = from_one most (unwrap_or given usual)
 
 -- the pick, 1 to 64, or else 1
 abbrev pub pick_of : Options → Option ℕ
-pick_of o = number_within o.pick DEFAULT_PICK MAX_PICK
+pick_of o = number_within o.pick DEFAULT_PICK LAST_PICK
 
 -- the number of workers, 1 to 64, or else 4
 abbrev pub workers_of : Options → Option ℕ
-workers_of o = number_within o.workers DEFAULT_WORKERS MAX_WORKERS
+workers_of o = number_within o.workers DEFAULT_WORKERS MOST_WORKERS
 
 -- the port, 1 to 65535, or else 8080
 abbrev pub port_of : Options → Option ℕ
-port_of o = number_within o.port DEFAULT_PORT MAX_PORT
+port_of o = number_within o.port DEFAULT_PORT LAST_PORT
 
 -- the number of connections, 1 to 1000000, or else 1
 abbrev pub connections_of : Options → Option ℕ
-connections_of o = number_within o.connections DEFAULT_CONNECTIONS MAX_CONNECTIONS
+connections_of o = number_within o.connections DEFAULT_CONNECTIONS MOST_CONNECTIONS
 
 -- a port as a positional word
 abbrev pub port_word : List ℕ → Option ℕ
-port_word word = option_and_then (from_one MAX_PORT) (short_number word)
+port_word word = option_and_then (from_one LAST_PORT) (short_number word)
 
 -- no option of how a corpus is published was given
 abbrev pub none_for_publishing : Options → Bool

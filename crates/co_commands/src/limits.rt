@@ -1,10 +1,12 @@
 //! The program's limits, and what stands for an option that isn't given.
 
+use co_noise::MOST_HITS;
+
 /// The most bytes of a corpus file.
-pub const MAX_CORPUS: u64 = 268_435_456;
+pub const LARGEST_CORPUS: u64 = 268_435_456;
 
 /// The most bytes of a library file.
-pub const MAX_LIBRARY: u64 = 671_088_640;
+pub const LARGEST_LIBRARY: u64 = 671_088_640;
 
 /// The most digits of a number of 32 bits.
 pub const SHORT_DIGITS: usize = 10;
@@ -13,16 +15,13 @@ pub const SHORT_DIGITS: usize = 10;
 pub const LONG_DIGITS: usize = 20;
 
 /// The last rank that may be picked.
-pub const MAX_PICK: u32 = 64;
-
-/// The most workers of a reply.
-pub const MAX_WORKERS: u32 = 64;
+pub const LAST_PICK: u32 = MOST_HITS;
 
 /// The greatest number of a port.
-pub const MAX_PORT: u32 = 65_535;
+pub const LAST_PORT: u32 = 65_535;
 
 /// The most connections that a library is served on.
-pub const MAX_CONNECTIONS: u32 = 1_000_000;
+pub const MOST_CONNECTIONS: u32 = 1_000_000;
 
 /// The degree of a library, if no other is asked.
 pub const DEFAULT_DEGREE: u32 = 4_096;

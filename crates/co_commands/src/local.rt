@@ -10,7 +10,7 @@ ghost use Rattle.co_commands.specs.Locals.{IsShown, Finds, LocalAnswer, LocalCau
 ghost use Rattle.co_commands.specs.Runs.{Ended};
 
 use crate::access::{put_answer, read_file};
-use crate::limits::MAX_LIBRARY;
+use crate::limits::LARGEST_LIBRARY;
 use crate::refusals::Refusal;
 use crate::words::{LocalCommand, join};
 use co_client::{SearchFault, search};
@@ -27,7 +27,7 @@ fn read_library<F: Files>(alloc: Global, name: &str, files: &mut F) -> Result<Li
     ensures { let at = files_by F.held F.faults F.last_failed in
         Opens HasLibraryFile OpenCause name.now (at files.old) (at files.new) result }
 {
-    let bytes = read_file(name, MAX_LIBRARY, files)?.ok_or(Refusal::LibraryTooLong)?;
+    let bytes = read_file(name, LARGEST_LIBRARY, files)?.ok_or(Refusal::LibraryTooLong)?;
     match Library::read(alloc, bytes.as_slice()) {
         Ok(library) => Ok(library),
         Err(LibraryFault::BadLibrary { place }) => Err(Refusal::Library(place)),

@@ -3,6 +3,7 @@ ghost use Rattle.std.specs.Prelude.{◌≡◌, ◌≤◌, string_bytes, map, opt
 ghost use Rattle.std.specs.Char.{is_ascii_digit};
 ghost use Rattle.std.specs.List.{list_all};
 ghost use Rattle.std.specs.Str.Parse.{digits_value};
+ghost use Rattle.co_board.specs.declared.board.TheConstants.{MOST_WORKERS};
 ghost use Rattle.co_commands.specs.Words.{are_digits, digits_number, short_number, long_number};
 ghost use Rattle.co_commands.specs.Words.{option_named, given, giving, once, with_option};
 ghost use Rattle.co_commands.specs.Words.{no_options, rest_of, number_within, pick_of, workers_of};
@@ -12,12 +13,13 @@ ghost use Rattle.co_commands.specs.Words.{are_for_plain, are_for_import, are_for
 ghost use Rattle.co_commands.specs.Words.{are_for_serve, are_for_search, are_for_rehearse};
 ghost use Rattle.co_commands.specs.Commands.{rest_shown};
 ghost use Rattle.co_commands.specs.Next.{next_shown, words_left};
-ghost use Rattle.co_commands.specs.declared.limits.TheConstants.{MAX_PICK, MAX_WORKERS, MAX_CONNECTIONS};
+ghost use Rattle.co_commands.specs.declared.limits.TheConstants.{LAST_PICK, MOST_CONNECTIONS};
 
 use crate::limits::{
-    DEFAULT_CONNECTIONS, DEFAULT_PICK, DEFAULT_PORT, DEFAULT_WORKERS, LONG_DIGITS, MAX_CONNECTIONS,
-    MAX_PICK, MAX_PORT, MAX_WORKERS, SHORT_DIGITS,
+    DEFAULT_CONNECTIONS, DEFAULT_PICK, DEFAULT_PORT, DEFAULT_WORKERS, LAST_PICK, LAST_PORT,
+    LONG_DIGITS, MOST_CONNECTIONS, SHORT_DIGITS,
 };
+use co_board::MOST_WORKERS;
 
 /// The name of an option.
 #[derive(Clone, Copy)]
@@ -173,7 +175,7 @@ fn within(given: Option<u32>, usual: u32, most: u32) -> Option<u32>
 pub fn read_port(word: &str) -> Option<u16>
     ensures { result ≡ port_word word.now }
 {
-    let port = from_one(MAX_PORT, read_short(word)?)?;
+    let port = from_one(LAST_PORT, read_short(word)?)?;
     u16::try_from(port).ok()
 }
 
@@ -312,34 +314,34 @@ impl Options {
     /// The pick, 1 to 64, or else 1.
     pub fn pick(self) -> Option<u32>
         ensures value { result ≡ pick_of self }
-        ensures within { IfSome result (λ pick. (1 ≤ pick) × (pick ≤ MAX_PICK)) }
+        ensures within { IfSome result (λ pick. (1 ≤ pick) × (pick ≤ LAST_PICK)) }
     {
-        within(self.pick, DEFAULT_PICK, MAX_PICK)
+        within(self.pick, DEFAULT_PICK, LAST_PICK)
     }
 
     /// The number of workers, 1 to 64, or else 4.
     pub fn workers(self) -> Option<u32>
         ensures value { result ≡ workers_of self }
         ensures within { IfSome result (λ workers.
-            (1 ≤ workers) × (workers ≤ MAX_WORKERS)) }
+            (1 ≤ workers) × (workers ≤ MOST_WORKERS)) }
     {
-        within(self.workers, DEFAULT_WORKERS, MAX_WORKERS)
+        within(self.workers, DEFAULT_WORKERS, MOST_WORKERS)
     }
 
     /// The port, 1 to 65535, or else 8080.
     pub fn port(self) -> Option<u16>
         ensures { result ≡ port_of self }
     {
-        u16::try_from(within(self.port, DEFAULT_PORT, MAX_PORT)?).ok()
+        u16::try_from(within(self.port, DEFAULT_PORT, LAST_PORT)?).ok()
     }
 
     /// The number of connections, 1 to 1000000, or else 1.
     pub fn connections(self) -> Option<u32>
         ensures value { result ≡ connections_of self }
         ensures within { IfSome result (λ number.
-            (1 ≤ number) × (number ≤ MAX_CONNECTIONS)) }
+            (1 ≤ number) × (number ≤ MOST_CONNECTIONS)) }
     {
-        within(self.connections, DEFAULT_CONNECTIONS, MAX_CONNECTIONS)
+        within(self.connections, DEFAULT_CONNECTIONS, MOST_CONNECTIONS)
     }
 }
 

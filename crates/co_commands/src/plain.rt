@@ -2,7 +2,7 @@
 ghost use Rattle.std.specs.Prelude.{◌≡◌, ◌≤◌, length, IfOk, IfErr, ℕ};
 ghost use Rattle.co_text.specs.Terms.{distinct};
 ghost use Rattle.co_text.specs.Printed.{printed};
-ghost use Rattle.co_text.specs.declared.limits.TheConstants.{MAX_KEYWORDS};
+ghost use Rattle.co_text.specs.declared.limits.TheConstants.{MOST_KEYWORDS};
 ghost use Rattle.co_tfidf.specs.Found.{found, IsIndex};
 ghost use Rattle.co_commands.specs.Words.{SpokenPlain};
 ghost use Rattle.co_commands.specs.Commands.{plain_shown};
@@ -12,7 +12,7 @@ ghost use Rattle.co_commands.specs.Searches.{HasCorpus, ReadCause, HasText, Text
 ghost use Rattle.co_commands.specs.Runs.{Ended};
 
 use crate::access::{put_answer, read_file};
-use crate::limits::{DEFAULT_CHUNKS, DEFAULT_DEGREE, DEFAULT_SALT, MAX_CORPUS};
+use crate::limits::{DEFAULT_CHUNKS, DEFAULT_DEGREE, DEFAULT_SALT, LARGEST_CORPUS};
 use crate::refusals::Refusal;
 use crate::words::{PlainCommand, join};
 use co_corpus::{Corpus, CorpusFault, read_corpus};
@@ -47,7 +47,7 @@ fn find(
     ghost most: { ℕ }
     requires same { most ≡ terms }
     requires index { IsIndex most corpus.now index.now }
-    requires few { length (distinct query.now) ≤ MAX_KEYWORDS }
+    requires few { length (distinct query.now) ≤ MOST_KEYWORDS }
     ensures { IfOk result (λ f.
         f ≡ found terms corpus.now command.now.hits query.now command.now.pick) }
 {
@@ -61,7 +61,7 @@ fn search(
     query: &Terms,
     command: &PlainCommand<'_>,
 ) -> Result<Bytes, AllocError>
-    requires { length (distinct query.now) ≤ MAX_KEYWORDS }
+    requires { length (distinct query.now) ≤ MOST_KEYWORDS }
     ensures { let c = command.now in IfOk result (λ text.
         text ≡ printed (found c.terms corpus.now c.hits query.now c.pick)) }
 {
@@ -75,7 +75,7 @@ pub fn read_documents<F: Files>(alloc: Global, name: &str, files: &mut F) -> Res
     ensures { let at = files_by F.held F.faults F.last_failed in
         Opens HasCorpus ReadCause name.now (at files.old) (at files.new) result }
 {
-    let bytes = read_file(name, MAX_CORPUS, files)?.ok_or(Refusal::CorpusTooLong)?;
+    let bytes = read_file(name, LARGEST_CORPUS, files)?.ok_or(Refusal::CorpusTooLong)?;
     match read_corpus(alloc, bytes.as_slice()) {
         Ok(corpus) => Ok(corpus),
         Err(CorpusFault::OutOfMemory) => Err(Refusal::Memory),

@@ -4,7 +4,7 @@ ghost use Rattle.std.specs.Prelude.{◌≡◌, ◌≤◌, ◌<◌, ◌+◌, leng
 ghost use Rattle.std.specs.Prelude.{slice_index_or, [], if◌then◌else◌};
 ghost use Rattle.co_text.specs.Terms.{terms, distinct};
 ghost use Rattle.co_text.specs.Printed.{printed};
-ghost use Rattle.co_text.specs.declared.limits.TheConstants.{MAX_KEYWORDS};
+ghost use Rattle.co_text.specs.declared.limits.TheConstants.{MOST_KEYWORDS};
 ghost use Rattle.co_tfidf.specs.Found.{found, IsIndex};
 ghost use Rattle.co_commands.specs.Words.{SpokenRehearse, joined};
 ghost use Rattle.co_commands.specs.Commands.{shown, local_shown, IsWithinRanges, IsWithinRehearsals};
@@ -122,7 +122,7 @@ fn plain_answer(
     pick: u32,
 ) -> Result<Bytes, AllocError>
     requires index { IsIndex TERMS corpus.now index.now }
-    requires few { length (distinct (terms (joined (shown query)))) ≤ MAX_KEYWORDS }
+    requires few { length (distinct (terms (joined (shown query)))) ≤ MOST_KEYWORDS }
     ensures { IfOk result (λ text.
         text ≡ printed (found TERMS corpus.now HITS (terms (joined (shown query.entry))) pick)) }
 {

@@ -1,5 +1,6 @@
 //! The command `serve`: a library on connections, one after another.
 ghost use Rattle.std.specs.Prelude.{◌≡◌, ◌≤◌, ◌<◌, ◌+◌, ◌++◌, length, true};
+ghost use Rattle.co_board.specs.declared.board.TheConstants.{MOST_WORKERS};
 ghost use Rattle.co_http.specs.ShortText.{text_of};
 ghost use Rattle.co_commands.specs.Words.{SpokenServe};
 ghost use Rattle.co_commands.specs.Commands.{serve_shown, IsWithinServing};
@@ -9,7 +10,6 @@ ghost use Rattle.co_commands.specs.Connections.{end_text, connection_line};
 ghost use Rattle.co_commands.specs.Locals.{CanBeServed};
 ghost use Rattle.co_commands.specs.Served.{ServesNext, ServesSome};
 ghost use Rattle.co_commands.specs.Runs.{Ended as CommandEnded};
-ghost use Rattle.co_commands.specs.declared.limits.TheConstants.{MAX_WORKERS};
 ghost use Rattle.rand_core.specs.Stream.{Stream};
 
 use crate::access::put_answer;
@@ -70,7 +70,7 @@ fn serve_next<T: Threads + Sync, P: Port>(
     port: &mut P,
 ) -> Result<Served, Refusal>
     requires listens { (P.tells port.old).listening ≡ true }
-    requires workers { (1 ≤ workers) × (workers ≤ MAX_WORKERS) }
+    requires workers { (1 ≤ workers) × (workers ≤ MOST_WORKERS) }
     ensures { let at = port_by P.tells P.Port.faults P.left P.put_so_far
         P.Source.faults P.Sink.faults in
         ServesNext loaded.now (at port.old) (at port.new) result }
@@ -94,7 +94,7 @@ fn serve_all<T: Threads + Sync, P: Port, O: Sink>(
     out: &mut O,
 ) -> Result<(), Refusal>
     requires listens { (P.tells port.old).listening ≡ true }
-    requires workers { (1 ≤ workers) × (workers ≤ MAX_WORKERS) }
+    requires workers { (1 ≤ workers) × (workers ≤ MOST_WORKERS) }
     ensures { let port_at = port_by P.tells P.Port.faults P.left P.put_so_far
         P.Source.faults P.Sink.faults in
         let out_at = sink_by O.put_so_far O.faults in

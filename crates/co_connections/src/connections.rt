@@ -2,6 +2,8 @@
 
 ghost use Rattle.std.specs.Prelude.{◌≡◌, ◌≤◌, IfSome};
 ghost use Rattle.co_link.specs.Causes.{Rose};
+ghost use Rattle.co_board.specs.declared.board.TheConstants.{MOST_WORKERS};
+ghost use Rattle.co_serving.specs.Conversation.{most_responses};
 ghost use Rattle.co_serving.specs.declared.ended.Ended.TheVariants.{ReadFault, WriteFault};
 ghost use Rattle.co_rounds.specs.Answers.{IsAnswer, Holds};
 ghost use Rattle.co_server.specs.Kept.{AreKept};
@@ -29,11 +31,11 @@ pub fn serve_connection<C: Duplex, R: Threads + Sync, G: Gate, L>(
     gate: &G,
     steps: &mut Steps<L>,
 ) -> Served
-    requires { (1 ≤ workers) × (workers ≤ 64) }
+    requires { (1 ≤ workers) × (workers ≤ MOST_WORKERS) }
     ensures serves { IfSome (C.left line.old) (λ input. IfSome (C.put_so_far line.old) (λ put.
         ServesLibrary loaded.now input (C.left line.new) put (C.put_so_far line.new) result.requests
         result.ended)) }
-    ensures requests { result.requests ≤ 1000 }
+    ensures requests { result.requests ≤ most_responses }
     ensures read_fault { result.ended ≡ ReadFault
         → Rose (C.Source.faults line.old) (C.Source.faults line.new) }
     ensures write_fault { result.ended ≡ WriteFault
@@ -43,7 +45,7 @@ pub fn serve_connection<C: Duplex, R: Threads + Sync, G: Gate, L>(
     ensures puts_later { C.Sink.faults line.old ≤ C.Sink.faults line.new }
 {
     let step = |session: &mut Session, loaded: &Loaded, request: &Request, workers: u32| -> Answer
-        requires workers { (1 ≤ workers) × (workers ≤ 64) }
+        requires workers { (1 ≤ workers) × (workers ≤ MOST_WORKERS) }
         requires kept { AreKept loaded.now.shape session.old }
         ensures answer { IsAnswer loaded.now session.old request.now result }
         ensures keys { Holds loaded.now.shape session.old request.now result session.new }

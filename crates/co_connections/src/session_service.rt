@@ -1,6 +1,7 @@
 //! A session as what answers the requests of a connection.
 
 ghost use Rattle.std.specs.Prelude.{◌≡◌, ◌≤◌};
+ghost use Rattle.co_board.specs.declared.board.TheConstants.{MOST_WORKERS};
 ghost use Rattle.co_connections.specs.Serving.{fresh};
 
 use co_link::{Bytes, Reply, Request, Target};
@@ -24,6 +25,7 @@ pub(crate) struct SessionService<'a, F> {
 
 impl<'a, F> Model for SessionService<'a, F> {
     ghost use Rattle.std.specs.Prelude.{◌≤◌};
+    ghost use Rattle.co_board.specs.declared.board.TheConstants.{MOST_WORKERS};
     ghost use Rattle.co_server.specs.Kept.{AreKept};
     ghost use Rattle.co_connections.specs.Serving.{ServingState};
 
@@ -31,14 +33,14 @@ impl<'a, F> Model for SessionService<'a, F> {
 
     ghost view = { λ s. record { library = s.loaded.now; keys = s.session } };
 
-    ghost invariant = { λ s. (1 ≤ s.workers) × (s.workers ≤ 64)
+    ghost invariant = { λ s. (1 ≤ s.workers) × (s.workers ≤ MOST_WORKERS)
         × AreKept s.loaded.now.shape s.session };
 }
 
 impl<'a, F> SessionService<'a, F> {
     /// A new session, with no keys. It takes no memory.
     pub(crate) fn new(alloc: Global, loaded: &'a Loaded, workers: u32, step: F) -> Self
-        requires { (1 ≤ workers) × (workers ≤ 64) }
+        requires { (1 ≤ workers) × (workers ≤ MOST_WORKERS) }
         ensures { result ≡ fresh loaded.now }
     {
         SessionService {
@@ -84,10 +86,10 @@ impl<F: FnMut(&mut Session, &Loaded, &Request, u32) -> Answer> Answering for Ses
     // Each call of `step` is a step of the session.
     ghost may_answer = { λ s.
         ((f : F) (keys : _) (loaded : _) (request : _) (workers : _)
-        → (1 ≤ workers) × (workers ≤ 64) → AreKept loaded.now.shape keys.now
+        → (1 ≤ workers) × (workers ≤ MOST_WORKERS) → AreKept loaded.now.shape keys.now
         → F.pre f keys loaded request workers)
         × ((f g : F) (keys kept : _) (loaded : _) (request : _) (workers : _) (answer : _)
-        → (1 ≤ workers) × (workers ≤ 64) → AreKept loaded.now.shape keys.now
+        → (1 ≤ workers) × (workers ≤ MOST_WORKERS) → AreKept loaded.now.shape keys.now
         → F.step f keys loaded request workers answer kept g
         → IsAnswer loaded.now keys.now request.now answer
         × Holds loaded.now.shape keys.now request.now answer kept.now

@@ -1,7 +1,7 @@
 //! From the bytes of a file to its documents.
 ghost use Rattle.std.specs.Prelude.{◌≡◌, ◌≤◌, length, codes, string_bytes, option_map, option_and_then, All, IfOk};
 ghost use Rattle.co_corpus.specs.Documents.{IsDocument};
-ghost use Rattle.co_text.specs.declared.limits.TheConstants.{MAX_DOCUMENTS};
+ghost use Rattle.co_text.specs.declared.limits.TheConstants.{MOST_DOCUMENTS};
 ghost use Rattle.serde_json.specs.View.{view};
 ghost use Rattle.serde_json.specs.Find.{get, as_str};
 ghost use Rattle.co_corpus.specs.declared.reading.CorpusFault.TheVariants.{OutOfMemory};
@@ -10,7 +10,7 @@ ghost use Rattle.co_corpus.specs.Reading.{title_in, of_data, document_of, add_li
 use crate::lines::{cut_line, is_blank, without_mark};
 use crate::{Corpus, Document, Documents};
 use co_link::Bytes;
-use co_text::{MAX_DOCUMENTS, MAX_TEXT, Title};
+use co_text::{LONGEST_TEXT, MOST_DOCUMENTS, Title};
 use serde_json::Value;
 use std::alloc::{AllocError, Global};
 use thiserror::Error;
@@ -86,7 +86,7 @@ fn read_value(alloc: Global, line: u64, mut value: Value) -> Result<Document, Co
     let Some(title) = title else {
         return Err(CorpusFault::TitleNotText { line });
     };
-    if text.len() > MAX_TEXT {
+    if text.len() > LONGEST_TEXT {
         return Err(CorpusFault::TextTooLong { line });
     }
     Ok(Document {
@@ -120,14 +120,14 @@ fn add_line(
     documents: &mut Documents,
 ) -> Result<(), CorpusFault>
     ensures value { IsAnswer (λ _. documents.new) (add_line line documents.old bytes.now) result }
-    ensures many { length documents.old ≤ MAX_DOCUMENTS → length documents.new ≤ MAX_DOCUMENTS }
+    ensures many { length documents.old ≤ MOST_DOCUMENTS → length documents.new ≤ MOST_DOCUMENTS }
     ensures each { All IsDocument documents.old → All IsDocument documents.new }
 {
     if is_blank(bytes) {
         return Ok(());
     }
     let document = read_line(alloc, line, bytes)?;
-    if documents.len() >= MAX_DOCUMENTS {
+    if documents.len() >= MOST_DOCUMENTS {
         return Err(CorpusFault::TooMany { line });
     }
     documents.push(document)?;

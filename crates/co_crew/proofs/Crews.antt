@@ -14,7 +14,7 @@ use Rattle.co_switch.proofs.Rising.{raised-zero, raised-up}
 use Rattle.co_crew.proofs.Parts.{raised-part, raised-both}
 use Rattle.co_crew.specs.Crew.{IsWhole, IsRun, IsTally}
 
-both_true : (a b : Bool) → (a && b) ≡ true → (a ≡ true) × (b ≡ true)
+pub both_true : (a b : Bool) → (a && b) ≡ true → (a ≡ true) × (b ≡ true)
 both_true true true e = (refl, refl)
 both_true true false e = absurd (false≢true e)
 both_true false b e = absurd (false≢true e)

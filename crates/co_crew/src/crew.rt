@@ -3,6 +3,7 @@
 ghost use Rattle.std.specs.Prelude.{ℕ, ◌≡◌, ◌<◌, ◌≤◌, ◌^◌, ◌++◌, ◌&&◌, List, [], All, IfOk, OnOk, length, map, true, false, vec_capacity};
 ghost use Rattle.co_board.specs.Once.{sum_below};
 ghost use Rattle.co_switch.specs.Steps.{raised, HasRisen};
+ghost use Rattle.co_board.specs.declared.board.TheConstants.{MOST_WORKERS};
 ghost use Rattle.co_crew.specs.Crew.{IsBegun, IsRun, IsWhole};
 
 use crate::work::Work;
@@ -179,7 +180,7 @@ pub fn fan_out<R: Threads + Sync, S: Send + Drop, L, W: Work<S, L>, G: Gate>(
     steps: &mut Steps<L>,
 ) -> Result<S, AllocError>
     requires units { (units ≡ W.units work.now) × (units ≤ 2 ^ 32) }
-    requires workers { (1 ≤ workers) × (workers ≤ 64) }
+    requires workers { (1 ≤ workers) × (workers ≤ MOST_WORKERS) }
     ensures sum { IfOk result (IsWhole (W.is_sum work.now) units) }
     ensures steps { OnOk result (steps.new ≡ raised steps.old (sum_below units (W.cost work.now))) }
     ensures rise { HasRisen steps.old (sum_below units (W.cost work.now)) steps.new }

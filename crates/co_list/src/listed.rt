@@ -44,13 +44,6 @@ impl<T> Listed<T> {
         Listed { inner }
     }
 
-    /// The vector, with no copy.
-    pub fn into_vec(self) -> Vec<T>
-        ensures { result.items ≡ self }
-    {
-        self.inner
-    }
-
     /// The items as a slice.
     pub fn as_slice(&self) -> &[T]
         ensures { result.now ≡ self.now }

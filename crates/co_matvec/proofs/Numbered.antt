@@ -9,7 +9,7 @@ use Rattle.std.proofs.lemmas.Bool.{cases_lt, eqb-true}
 use Rattle.co_matvec.specs.Weights.{WeightMatrix, keyword_blocks, document_blocks}
 use Rattle.co_matvec.specs.Diagonals.{on_diagonal}
 use Rattle.co_matvec.specs.Ranges.{diagonal_number, entry_number}
-use Rattle.co_matvec.proofs.Filling.{both_true}
+use Rattle.co_crew.proofs.Crews.{both_true}
 
 -- the turn from a document's column to a term's
 turned-back : (h x i t : ℕ) → x < h → i < h → t ≡ (x + i) % h → (t + h - x) % h ≡ i
@@ -96,7 +96,8 @@ blocks-enough : (w : WeightMatrix) → 0 < w.degree → w.documents ≤ document
 unfolding document_blocks document_blocks_of
 blocks-enough w z = (div_ceil_times w.documents w.degree z).0
 
-words-enough : (w : WeightMatrix) → 0 < w.degree / 2 → w.terms ≤ keyword_blocks w * (w.degree / 2)
+-- the blocks have room for all terms
+pub words-enough : (w : WeightMatrix) → 0 < w.degree / 2 → w.terms ≤ keyword_blocks w * (w.degree / 2)
 unfolding keyword_blocks keyword_blocks_of
 words-enough w z =
     let some : div_ceil w.terms (w.degree / 2) ≤ max 1 (div_ceil w.terms (w.degree / 2)) = omega arith in

@@ -4,9 +4,10 @@ use Rattle.std.specs.List.{list_all, position}
 use Rattle.std.specs.Int.{w32, to_be_bytes, from_be_bytes}
 use Rattle.std.specs.Str.{is_utf8}
 use Rattle.co_text.specs.Titles.{IsTitle, is_plain}
+use Rattle.co_text.specs.declared.limits.TheConstants.{LONGEST_TITLE}
 use Rattle.co_pack.specs.declared.packing.Place.{Place}
 use Rattle.co_pack.specs.declared.records.Record.{Record}
-use Rattle.co_pack.specs.declared.records.TheConstants.{TITLE_LENGTH_AT, TITLE_AT, TITLE_ROOM, MOST_TITLE}
+use Rattle.co_pack.specs.declared.records.TheConstants.{TITLE_LENGTH_AT, TITLE_AT, TITLE_ROOM}
 
 -- ---- from a record to its bytes
 
@@ -63,7 +64,7 @@ padded title end (Some k) = Err (end + k)
 -- zeros behind it
 unfoldable pub title_within : List ℕ → Result (List ℕ) ℕ
 title_within bytes =
-    if nat_lt MOST_TITLE (title_length bytes) then Err TITLE_LENGTH_AT
+    if nat_lt LONGEST_TITLE (title_length bytes) then Err TITLE_LENGTH_AT
     else if is_text (title_text bytes)
     then padded (title_text bytes) (TITLE_AT + title_length bytes)
     (position is_set (behind_title bytes))

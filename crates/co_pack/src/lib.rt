@@ -13,5 +13,5 @@ pub mod laws;
 mod packing;
 mod records;
 
-pub use packing::{LONGEST_TEXT, MOST_DEGREE, MOST_DOCUMENTS, Place, Places, bin_size, pack_bins};
+pub use packing::{MOST_BIN_BYTES, MOST_DEGREE, Place, Places, bin_size, pack_bins};
 pub use records::{RECORD_BYTES, Record, RecordFault, read_record, write_record};

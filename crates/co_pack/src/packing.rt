@@ -9,19 +9,17 @@
 ghost use Rattle.std.specs.Prelude.{◌≡◌, ◌+◌, ◌*◌, ◌/◌, ◌<◌, ◌≤◌, ◌++◌, ◌^◌, ℕ, List, [], ◌∷◌, length, slice_index, slice_index_or, IfOk, MatchOption, IfSome, map};
 ghost use Rattle.std.specs.List.{All, range_with_len};
 ghost use Rattle.std.specs.List.Sorted.{IsPermutation, IsSorted};
+ghost use Rattle.co_text.specs.declared.limits.TheConstants.{MOST_DOCUMENTS};
 ghost use Rattle.co_pack.specs.Packing.{IsBinSize, IsNext, IsFirstFit, IsPacked, IsBinCount, IsEarlier, key_cmp, no_place};
 ghost use Rattle.co_pack.specs.Rooms.{IsTopped, IsRoom, IsOpened};
 
 use co_list::Listed;
-use co_text::{MAX_DOCUMENTS, MAX_TEXT};
+use co_text::LONGEST_TEXT;
 use std::alloc::{AllocError, Global};
 use std::cmp::Reverse;
 
-/// The most documents that are packed.
-pub const MOST_DOCUMENTS: usize = MAX_DOCUMENTS;
-
-/// The bytes of the longest text, and of the greatest bin that is asked for.
-pub const LONGEST_TEXT: u32 = MAX_TEXT as u32;
+/// The most bytes of a bin that is asked for: those of the longest text.
+pub const MOST_BIN_BYTES: u32 = LONGEST_TEXT as u32;
 
 /// The greatest degree.
 pub const MOST_DEGREE: u32 = 4_096;
@@ -49,11 +47,11 @@ pub type Places = Listed<Place>;
 /// The bytes of a bin: the least multiple of `2 * degree` that holds the longest text, and at least
 /// `chunks` pieces of `2 * degree` bytes.
 pub fn bin_size(longest: u32, degree: u32, chunks: u32) -> u32
-    requires longest { longest ≤ LONGEST_TEXT }
+    requires longest { longest ≤ MOST_BIN_BYTES }
     requires some_degree { 1 ≤ degree }
     requires degree { degree ≤ MOST_DEGREE }
     requires some_chunks { 1 ≤ chunks }
-    requires chunks { chunks * (2 * degree) ≤ LONGEST_TEXT }
+    requires chunks { chunks * (2 * degree) ≤ MOST_BIN_BYTES }
     ensures { IsBinSize longest degree chunks result }
 {
     let piece = 2 * degree;

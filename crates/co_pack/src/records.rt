@@ -3,11 +3,12 @@
 ghost use Rattle.std.specs.Prelude.{◌≡◌, ◌+◌, ◌≤◌, ◌<◌, IfSome, Ok, Err, length, take, drop, IfOk, if◌then◌else◌};
 ghost use Rattle.std.specs.List.{position};
 ghost use Rattle.std.specs.Int.{w32, to_be_bytes};
+ghost use Rattle.co_text.specs.declared.limits.TheConstants.{LONGEST_TITLE};
 ghost use Rattle.co_pack.specs.Records.{number_at, record_bytes, record_of, is_text, is_set, title_within, IsRecord};
 ghost use Rattle.co_pack.specs.RecordFaults.{IsReadAs};
 
 use crate::packing::Place;
-use co_text::{MAX_TITLE, Title};
+use co_text::{LONGEST_TITLE, Title};
 use std::alloc::Global;
 use thiserror::Error;
 
@@ -22,9 +23,6 @@ pub const TITLE_AT: usize = TITLE_LENGTH_AT + 1;
 
 /// The bytes from there to the end of the record.
 pub const TITLE_ROOM: usize = RECORD_BYTES - TITLE_AT;
-
-/// The most bytes of a title.
-pub const MOST_TITLE: usize = MAX_TITLE;
 
 /// What a record says.
 #[derive(Debug, Drop)]
@@ -112,7 +110,7 @@ fn title_in(alloc: Global, bytes: &[u8]) -> Result<Title, RecordFault>
     ensures { IsReadAs result (title_within bytes.now) }
 {
     let size = bytes[TITLE_LENGTH_AT] as usize;
-    if size > MOST_TITLE {
+    if size > LONGEST_TITLE {
         return Err(RecordFault::BadRecord {
             place: TITLE_LENGTH_AT as u32,
         });
@@ -130,7 +128,7 @@ fn title_in(alloc: Global, bytes: &[u8]) -> Result<Title, RecordFault>
 
 /// Bytes as a title.
 fn title_from(alloc: Global, bytes: &[u8]) -> Result<Title, RecordFault>
-    requires { length bytes.now ≤ MOST_TITLE }
+    requires { length bytes.now ≤ LONGEST_TITLE }
     ensures { IsReadAs result (if is_text bytes.now then Ok bytes.now else Err TITLE_AT) }
 {
     let Ok(text) = str::from_utf8(bytes) else {

@@ -13,8 +13,8 @@ use Rattle.co_bfv.proofs.Encrypted.{decrypted_are}
 use Rattle.co_matvec.specs.Replies.{MeansSlots}
 
 -- residues of a polynomial with reduced coefficients are its coefficients
-own : (n : ℕ) (xs ys : List ℕ) → length xs ≡ n → AreBelow plain_modulus xs → AreResidues plain_modulus n (coefficients xs) ys → ys ≡ xs
-own n xs ys e b h =
+pub reduced_own : (n : ℕ) (xs ys : List ℕ) → length xs ≡ n → AreBelow plain_modulus xs → AreResidues plain_modulus n (coefficients xs) ys → ys ≡ xs
+reduced_own n xs ys e b h =
     ext_get_or 0 ys xs (h.len ∙ sym e)
     (λ i l.
     let u : i < length xs = omega (arith, h.len) in
@@ -24,5 +24,5 @@ pub slot_opened : (n : ℕ) (secret : List ℤ) (c : Ciphertext) (slots : ℕ �
     → (p : ℕ) → p < n → slot (decrypted secret c) p ≡ slots p
 slot_opened n secret c slots b degree h room p l =
     let are = decrypted_are secret c (coefficients h.message) b h.means room in
-    let same : decrypted secret c ≡ h.message = own (ciphertext_degree c) h.message (decrypted secret c) (h.spelled.len ∙ sym degree) h.spelled.reduced are in
+    let same : decrypted secret c ≡ h.message = reduced_own (ciphertext_degree c) h.message (decrypted secret c) (h.spelled.len ∙ sym degree) h.spelled.reduced are in
     ap (λ (xs : List ℕ). slot xs p) same ∙ h.spelled.each p l

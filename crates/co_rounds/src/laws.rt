@@ -45,7 +45,7 @@ ghost use Rattle.co_rounds.specs.Scoring.{AskScores, scores_read};
 ghost use Rattle.co_rounds.specs.Placing.{document_row, document_start};
 ghost use Rattle.co_rounds.specs.Retrieving.{OverRecordRound, OverDocumentRound};
 ghost use Rattle.co_rounds.specs.Recording.{IsLibraryFor, ShowsDocument, CanBeOpened, AsksFor, bytes_of, bucket_replies};
-ghost use Rattle.co_text.specs.declared.limits.TheConstants.{MAX_KEYWORDS};
+ghost use Rattle.co_text.specs.declared.limits.TheConstants.{MOST_KEYWORDS};
 ghost use Rattle.co_pack.specs.declared.records.TheConstants.{RECORD_BYTES};
 
 /// The entries of a library are entries of its weight matrix. The weight of a term there is that of
@@ -126,7 +126,7 @@ pub fn scores_are_plain()
         → IsBuilt documents settings l → HasRoom l.shape
         → (secret : List ℤ) → IsSecret secret → length secret ≡ l.shape.degree
         → (keys : Keys) → AreKeysFor l.shape keys → AreGoodKeys (signed_coefficients secret) keys
-        → (query : List (List ℕ)) → length (distinct query) ≤ MAX_KEYWORDS
+        → (query : List (List ℕ)) → length (distinct query) ≤ MOST_KEYWORDS
         → (queries replies : List Ciphertext)
         → AreCiphers l.shape.degree (keyword_blocks l.shape) queries
         → AskScores l.shape.degree secret (keywords_of l.terms (distinct query)) queries
@@ -142,7 +142,7 @@ pub fn score_round_is_plain()
         → (secret : List ℤ) → IsSecret secret → length secret ≡ l.shape.degree
         → (keys : Keys) (keys_body : List ℕ) → SpellsKeys l.shape keys keys_body
         → AreGoodKeys (signed_coefficients secret) keys
-        → (query : List (List ℕ)) → length (distinct query) ≤ MAX_KEYWORDS
+        → (query : List (List ℕ)) → length (distinct query) ≤ MOST_KEYWORDS
         → (queries : List Ciphertext) (asked : List ℕ)
         → SpellsCiphers l.shape.degree (keyword_blocks l.shape) queries asked
         → AskScores l.shape.degree secret (keywords_of l.terms (distinct query)) queries

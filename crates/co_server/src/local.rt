@@ -2,6 +2,7 @@
 
 ghost use Rattle.std.specs.Prelude.{◌≡◌, ◌≤◌, None, Some, []};
 ghost use Rattle.co_link.specs.Dialled.{dialling_of};
+ghost use Rattle.co_board.specs.declared.board.TheConstants.{MOST_WORKERS};
 ghost use Rattle.co_rounds.specs.Honest.{AreHonest};
 ghost use Rattle.co_server.specs.Local.{IsLocal};
 
@@ -67,7 +68,7 @@ impl<'a, R: Runs> LocalLink<'a, R> {
     /// A link to a new session, with no exchange so far. It takes no memory.
     pub fn new(rt: &'a R, alloc: Global, loaded: &'a Loaded, workers: u32) -> Self
         requires shared { R.is_shared }
-        requires workers { (1 ≤ workers) × (workers ≤ 64) }
+        requires workers { (1 ≤ workers) × (workers ≤ MOST_WORKERS) }
         ensures library { result.library ≡ loaded.now }
         ensures told { result.told ≡ [] }
         ensures keys { result.keys ≡ None }

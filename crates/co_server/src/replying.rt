@@ -8,6 +8,7 @@ ghost use Rattle.co_wire.specs.Bodies.{AreCiphers, SpellsCiphers};
 ghost use Rattle.co_bucket.specs.Lists.{bucket_count};
 ghost use Rattle.co_rounds.specs.Serving.{bucket_table, gathered};
 ghost use Rattle.co_link.specs.declared.messages.Target.TheVariants as targets;
+ghost use Rattle.co_board.specs.declared.board.TheConstants.{MOST_WORKERS};
 ghost use Rattle.co_wire.specs.BadBodies.{IsBadBody};
 ghost use Rattle.co_wire.specs.Bodies.{AreKeysFor};
 ghost use Rattle.co_wire.specs.Lengths.{request_size};
@@ -83,7 +84,7 @@ pub fn reply_with<R: Threads + Sync, G: Gate, L>(
 ) -> Answer
     requires target { needs_keys request.now.target ≡ true }
     requires keys { AreKeysFor loaded.now.shape keys.now }
-    requires workers { (1 ≤ workers) × (workers ≤ 64) }
+    requires workers { (1 ≤ workers) × (workers ≤ MOST_WORKERS) }
     ensures { IsAnswer loaded.now (Some keys.now) request.now result }
 {
     let queries = match read_queries(alloc, loaded, request) {
@@ -148,7 +149,7 @@ fn replies<R: Threads + Sync, G: Gate, L>(
     requires queries { AreCiphers loaded.now.shape.degree (query_count loaded.now.shape target)
         queries.now }
     requires keys { AreKeysFor loaded.now.shape keys.now }
-    requires workers { (1 ≤ workers) × (workers ≤ 64) }
+    requires workers { (1 ≤ workers) × (workers ≤ MOST_WORKERS) }
     ensures { IfOk result (λ cs. AreReplies loaded.now keys.now target queries.now cs.items) }
 {
     match target {
@@ -179,7 +180,7 @@ fn gather<R: Threads + Sync, G: Gate, L>(
     requires queries { AreCiphers loaded.now.shape.degree (bucket_count loaded.now.shape.hits)
         queries.now }
     requires keys { AreKeysFor loaded.now.shape keys.now }
-    requires workers { (1 ≤ workers) × (workers ≤ 64) }
+    requires workers { (1 ≤ workers) × (workers ≤ MOST_WORKERS) }
     ensures { IfOk result (λ cs. cs.items ≡ gathered loaded.now keys.now queries.now) }
 {
     let mut replies = Vec::new(alloc);
@@ -215,7 +216,7 @@ fn bucket_reply<R: Threads + Sync, G: Gate, L>(
     requires bucket { bucket < bucket_count loaded.now.shape.hits }
     requires degree { ciphertext_degree query.now ≡ loaded.now.shape.degree }
     requires keys { AreKeysFor loaded.now.shape keys.now }
-    requires workers { (1 ≤ workers) × (workers ≤ 64) }
+    requires workers { (1 ≤ workers) × (workers ≤ MOST_WORKERS) }
     ensures { IfOk result (λ cs. cs.items ≡ retrieved (bucket_table loaded.now bucket) keys.now
         query.now) }
 {

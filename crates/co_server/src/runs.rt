@@ -1,6 +1,7 @@
 //! Where the steps of sessions run.
 
 ghost use Rattle.std.specs.Prelude.{◌≤◌};
+ghost use Rattle.co_board.specs.declared.board.TheConstants.{MOST_WORKERS};
 ghost use Rattle.co_rounds.specs.Answers.{IsAnswer, Holds};
 ghost use Rattle.co_server.specs.Kept.{AreKept};
 
@@ -30,7 +31,7 @@ pub trait Runs: Threads {
         workers: u32,
     ) -> Answer
         requires shared { is_shared }
-        requires workers { (1 ≤ workers) × (workers ≤ 64) }
+        requires workers { (1 ≤ workers) × (workers ≤ MOST_WORKERS) }
         requires kept { AreKept loaded.now.shape session.old }
         ensures answer { IsAnswer loaded.now session.old request.now result }
         ensures keys { Holds loaded.now.shape session.old request.now result session.new }

@@ -1,6 +1,7 @@
 //! A session: one request after another.
 
 ghost use Rattle.std.specs.Prelude.{◌≡◌, ◌≤◌, None};
+ghost use Rattle.co_board.specs.declared.board.TheConstants.{MOST_WORKERS};
 ghost use Rattle.co_rounds.specs.Answers.{IsAnswer, Holds};
 ghost use Rattle.co_server.specs.Kept.{AreKept};
 
@@ -50,7 +51,7 @@ impl Session {
         gate: &G,
         steps: &mut Steps<L>,
     ) -> Answer
-        requires workers { (1 ≤ workers) × (workers ≤ 64) }
+        requires workers { (1 ≤ workers) × (workers ≤ MOST_WORKERS) }
         requires kept { AreKept loaded.now.shape self.old }
         ensures answer { IsAnswer loaded.now self.old request.now result }
         ensures keys { Holds loaded.now.shape self.old request.now result self.new }

@@ -4,7 +4,7 @@ ghost use Rattle.co_link.specs.Causes.{Rose};
 ghost use Rattle.co_http.specs.Conn.{held, unread, kept, cannot_write, first_fault};
 ghost use Rattle.co_http.specs.ShortText.{text_of};
 ghost use Rattle.co_http.specs.Responses.{is_status, Writes, WriteCause};
-ghost use Rattle.co_serving.specs.Conversation.{Serves, closing_end, status_of, closing_status, length_text, response_at};
+ghost use Rattle.co_serving.specs.Conversation.{Serves, closing_end, status_of, closing_status, length_text, most_responses, response_at};
 ghost use Rattle.co_serving.specs.Reading.{ServesMessage, HaveCauses};
 ghost use Rattle.co_serving.specs.declared.ended.Ended.TheVariants.{ReadFault, WriteFault};
 
@@ -50,7 +50,7 @@ fn write_answer<K: Sink>(
 ) -> Result<(), HttpFault>
     requires status { IsTrue (is_status (status_of answer.now)) }
     requires writes { cannot_write conn.old ≡ false }
-    requires count { count < 1000 }
+    requires count { count < most_responses }
     ensures writes { Writes false (K.put_so_far sink.old) (K.put_so_far sink.new)
         (response_at count answer.now) result }
     ensures held { held conn.new ≡ held conn.old }
@@ -84,7 +84,7 @@ fn serve_next<C: Duplex, A: Answering>(
     requires ready { A.may_answer answering.old }
     requires kept { kept conn.old ≡ None }
     requires writes { cannot_write conn.old ≡ false }
-    requires count { count < 1000 }
+    requires count { count < most_responses }
     ensures serves { ServesMessage A.wanted A.answers answering.old answering.new
         (unread conn.old (C.left line.old)) (unread conn.new (C.left line.new)) (C.left line.new)
         (C.put_so_far line.old) (C.put_so_far line.new) count result }
@@ -125,7 +125,7 @@ pub fn serve_by<C: Duplex, A: Answering>(alloc: Global, answering: &mut A, line:
     ensures serves { IfSome (C.left line.old) (λ input. IfSome (C.put_so_far line.old) (λ put.
         Serves A.wanted A.answers answering.old answering.new input (C.left line.new) put
         (C.put_so_far line.new) result.requests result.ended)) }
-    ensures requests { result.requests ≤ 1000 }
+    ensures requests { result.requests ≤ most_responses }
     ensures causes { HaveCauses result.ended (C.Source.faults line.old) (C.Source.faults line.new)
         (C.Sink.faults line.old) (C.Sink.faults line.new) }
     ensures beside { C.Duplex.beside line.new ≡ C.Duplex.beside line.old }
@@ -160,7 +160,7 @@ pub fn serve_service<C: Duplex, S: Service>(alloc: Global, service: &mut S, line
     ensures serves { IfSome (C.left line.old) (λ input. IfSome (C.put_so_far line.old) (λ put.
         Serves S.wanted S.steps service.old service.new input (C.left line.new) put
         (C.put_so_far line.new) result.requests result.ended)) }
-    ensures requests { result.requests ≤ 1000 }
+    ensures requests { result.requests ≤ most_responses }
     ensures read_fault { result.ended ≡ ReadFault
         → Rose (C.Source.faults line.old) (C.Source.faults line.new) }
     ensures write_fault { result.ended ≡ WriteFault

@@ -13,6 +13,7 @@ use Rattle.co_math.proofs.Totals.{total-same, total-neg}
 use Rattle.co_math.proofs.Places.{coefficients-IsWrapped}
 use Rattle.co_math.proofs.Polynomials.{product-IsWrapped}
 use Rattle.co_bfv.specs.Ciphertexts.{Ciphertext, IsCiphertext, MeansWithin, ciphertext_degree}
+use Rattle.co_bfv.proofs.Combined.{whole_pair}
 use Rattle.co_math.proofs.Degrees.{degree_positive}
 use Rattle.co_math.proofs.Residue_lists.{length-residues_of, residues_of-agree, residues_of-below}
 use Rattle.co_math.proofs.Wrapped.{plus-IsWrapped}
@@ -33,6 +34,11 @@ part-IsWrapped n ps z e h j l =
 pub degree-switched : (key : Key) (c : Ciphertext) → ciphertext_degree (switched key c) ≡ ciphertext_degree c
 unfolding switched
 degree-switched key c = length-residues_of q (length c.c0) (plus (substitution (length c.c0) key.element (coefficients c.c0)) (digit_sum (automorphism key.element c.c1) key.k0))
+
+-- a switch gives a ciphertext
+pub switched-IsCiphertext : (key : Key) (c : Ciphertext) → IsDegree (ciphertext_degree c) → IsCiphertext (switched key c)
+unfolding switched
+switched-IsCiphertext key c d = whole_pair (ciphertext_degree c) _ _ d
 
 -- the sum over digits, over a degree n
 digit_total : ℕ → List ℕ → List (List ℕ) → ℤ → ℤ

@@ -50,6 +50,13 @@ pub record AreOfDegree (n : ℕ) (values : List PairValues) : Type 0 where
   pub degree : (j : ℕ) (d : PairValues) → j < digit_count
       → spectrum_degree (slice_index_or values j d) ≡ n
 
+-- room for the digits of a polynomial of n coefficients, and for the values of three of them
+pub record IsDigitRoom (n : ℕ) (digits : List ℕ) (low middle high : PairValues) : Type 0 where
+  pub digits_degree : length digits ≡ n
+  pub low_degree : spectrum_degree low ≡ n
+  pub middle_degree : spectrum_degree middle ≡ n
+  pub high_degree : spectrum_degree high ≡ n
+
 -- what is kept with a key: tables of its degree, and the values of its polynomials
 pub record IsKept (key : Key) (tables : ℕ) (values0 values1 : List PairValues) : Type 0 where
   pub whole_key : IsKey key

@@ -5,7 +5,7 @@ ghost use Rattle.co_math.specs.Parameters.{digit_count, q};
 ghost use Rattle.co_math.specs.Coefficients.{IsDegree, coefficients, residues_of};
 ghost use Rattle.co_ring.specs.Product_sums.{most_products};
 ghost use Rattle.co_rns.specs.Spectra.{IsNoPairSum, IsPairSumOf, IsPairSumWithAll, IsSpectrumOf, PairValues, spectrum_degree};
-ghost use Rattle.co_switch.specs.Keys.{AreOfDegree, AreSpectra};
+ghost use Rattle.co_switch.specs.Keys.{AreOfDegree, AreSpectra, IsDigitRoom};
 ghost use Rattle.co_switch.specs.Switches.{digit_polynomial, digit_sum};
 
 use co_math::DIGIT_COUNT;
@@ -48,10 +48,8 @@ fn sums_of_room(
     values1: &[PairSpectrum],
 ) -> Result<(Pair, Pair), AllocError>
     requires degree { IsDegree tables.now }
-    requires digits_degree { length room.old.digits ≡ tables.now }
-    requires low_degree { spectrum_degree room.old.low ≡ tables.now }
-    requires middle_degree { spectrum_degree room.old.middle ≡ tables.now }
-    requires high_degree { spectrum_degree room.old.high ≡ tables.now }
+    requires room { IsDigitRoom tables.now room.old.digits room.old.low room.old.middle
+        room.old.high }
     requires values0 { AreOfDegree tables.now values0.now }
     requires values1 { AreOfDegree tables.now values1.now }
     ensures first { IfOk result (λ sums. (ks : List (List ℕ)) → AreSpectra tables.now ks values0.now
@@ -101,10 +99,7 @@ struct DigitRoom {
 
 /// Room for the digits of a polynomial.
 fn digit_room(alloc: Global, degree: Degree) -> Result<DigitRoom, AllocError>
-    ensures digits { IfOk result (λ room. length room.digits ≡ degree) }
-    ensures low { IfOk result (λ room. spectrum_degree room.low ≡ degree) }
-    ensures middle { IfOk result (λ room. spectrum_degree room.middle ≡ degree) }
-    ensures high { IfOk result (λ room. spectrum_degree room.high ≡ degree) }
+    ensures { IfOk result (λ room. IsDigitRoom degree room.digits room.low room.middle room.high) }
 {
     let digits = Decomposition::zero(alloc, degree)?;
     let (low, middle, high) = three_spectra(alloc, degree)?;
@@ -150,10 +145,8 @@ fn gather_digits(
     values1: &[PairSpectrum],
 )
     requires degree { IsDegree tables.now }
-    requires digits_degree { length room.old.digits ≡ tables.now }
-    requires low_degree { spectrum_degree room.old.low ≡ tables.now }
-    requires middle_degree { spectrum_degree room.old.middle ≡ tables.now }
-    requires high_degree { spectrum_degree room.old.high ≡ tables.now }
+    requires room { IsDigitRoom tables.now room.old.digits room.old.low room.old.middle
+        room.old.high }
     requires none0 { IsNoPairSum tables.now sum0.old }
     requires values0 { AreOfDegree tables.now values0.now }
     requires none1 { IsNoPairSum tables.now sum1.old }
@@ -177,10 +170,8 @@ fn gather_digits(
 /// The values of the polynomials of three digits, from a place on.
 fn digit_values(room: &mut DigitRoom, tables: &Tables, index: u32)
     requires place { index + 2 < digit_count }
-    requires degree { length room.old.digits ≡ tables.now }
-    requires low_degree { spectrum_degree room.old.low ≡ tables.now }
-    requires middle_degree { spectrum_degree room.old.middle ≡ tables.now }
-    requires high_degree { spectrum_degree room.old.high ≡ tables.now }
+    requires room { IsDigitRoom tables.now room.old.digits room.old.low room.old.middle
+        room.old.high }
     ensures same { room.new.digits ≡ room.old.digits }
     ensures low { IsSpectrumOf tables.now
         (coefficients (digit_polynomial index room.old.digits)) room.new.low }

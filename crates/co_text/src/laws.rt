@@ -11,6 +11,7 @@ ghost use Rattle.co_text.specs.Ranking.{ranking, IsRanking};
 ghost use Rattle.co_text.specs.declared.ranks.Ranked.{Ranked};
 
 /// The distinct terms of a list are its terms, each once; so of distinct terms they are all.
+#[tactic(auto, using(crate::proofs::Numbered::distinct_once, crate::proofs::Numbered::distinct_members, crate::proofs::Numbered::distinct_few, crate::proofs::Numbered::distinct_again))]
 pub fn distinct_terms_stand_once()
     ensures once { (ts : List (List ℕ)) → IsDistinct bytes_eq (distinct ts) }
     ensures same { (ts : List (List ℕ)) (t : List ℕ) → list_any (bytes_eq t) (distinct ts)

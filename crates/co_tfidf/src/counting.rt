@@ -3,14 +3,14 @@ ghost use Rattle.std.specs.Prelude.{◌≡◌, ◌≤◌, ◌<◌, ◌++◌, ◌
 ghost use Rattle.std.specs.Str.{bytes_eq};
 ghost use Rattle.std.specs.BTreeMap.{get_by_text};
 ghost use Rattle.co_text.specs.Terms.{terms, folded, is_short};
-ghost use Rattle.co_text.specs.declared.limits.TheConstants.{MAX_DOCUMENTS};
+ghost use Rattle.co_text.specs.declared.limits.TheConstants.{MOST_DOCUMENTS};
 ghost use Rattle.co_corpus.specs.Documents.{IsDocument};
 ghost use Rattle.co_tfidf.specs.Counts.{term_frequency};
 ghost use Rattle.co_tfidf.specs.Postings.{counted, posting, postings, postings_of, listed};
 
 use crate::postings::Postings;
 use co_corpus::Document;
-use co_text::{MAX_TERM, fold, is_folded};
+use co_text::{LONGEST_TERM, fold, is_folded};
 use std::alloc::{AllocError, Global};
 use std::collections::BTreeMap;
 use unicode_segmentation::UnicodeSegmentation;
@@ -46,7 +46,7 @@ fn count_folded(alloc: Global, counts: &mut Counts, term: &str, document: u32) -
         ≡ (if is_short term.now && bytes_eq w term.now
         then Some (counted (postings_of counts.old w) document) else get_by_text counts.old w)) }
 {
-    if term.len() > MAX_TERM {
+    if term.len() > LONGEST_TERM {
         return Ok(());
     }
     count_term(alloc, counts, term, document)
@@ -95,7 +95,7 @@ fn count_document(alloc: Global, counts: &mut Counts, document: &Document, numbe
 /// The postings of each term of these documents.
 pub fn count_documents(alloc: Global, documents: &[Document]) -> Result<Counts, AllocError>
     requires each { All IsDocument documents.now }
-    requires few { length documents.now ≤ MAX_DOCUMENTS }
+    requires few { length documents.now ≤ MOST_DOCUMENTS }
     ensures { IfOk result (λ counts. (w : List ℕ) → get_by_text counts w
         ≡ listed (postings w 0 documents.now)) }
 {

@@ -1,6 +1,6 @@
 //! The index of a corpus.
 ghost use Rattle.std.specs.Prelude.{◌≡◌, ◌≤◌, ◌<◌, ◌+◌, ◌^◌, ◌++◌, [], All, map, flat_map, length, IfOk, OnOk, IsUtf8};
-ghost use Rattle.co_text.specs.declared.limits.TheConstants.{MAX_DOCUMENTS};
+ghost use Rattle.co_text.specs.declared.limits.TheConstants.{MOST_DOCUMENTS};
 ghost use Rattle.co_tfidf.specs.Tables.{shown, posting_entry, table_entries};
 ghost use Rattle.co_tfidf.specs.Found.{IsIndex};
 ghost use Rattle.co_tfidf.specs.Vocabulary.{IsVocabulary};
@@ -74,7 +74,7 @@ fn count_postings(kept: &Counts) -> usize {
 // The index of terms with their postings, among so many documents.
 fn index_of(alloc: Global, kept: Counts, documents: u32) -> Result<Index, AllocError>
     requires few { length kept.entries < 2 ^ 32 }
-    requires documents { documents ≤ MAX_DOCUMENTS }
+    requires documents { documents ≤ MOST_DOCUMENTS }
     requires each { All (λ e. (1 ≤ length e.1) × (length e.1 ≤ documents)) kept.entries }
     ensures terms { IfOk result (λ index. index.terms ≡ map (λ e. e.0) (map shown kept.entries)) }
     ensures weights { IfOk result (λ index. index.weights

@@ -11,7 +11,7 @@ ghost use Rattle.co_tfidf.specs.Added.{document_weight, AllWithin};
 ghost use Rattle.co_tfidf.specs.EntryScores.{term_score};
 ghost use Rattle.co_tfidf.specs.Hits.{hit_of};
 ghost use Rattle.co_tfidf.specs.Found.{IsIndex, picked, found};
-ghost use Rattle.co_text.specs.declared.limits.TheConstants.{MAX_KEYWORDS};
+ghost use Rattle.co_text.specs.declared.limits.TheConstants.{MOST_KEYWORDS};
 ghost use Rattle.co_tfidf.specs.declared.postings.TheConstants.{MOST_WEIGHT};
 
 use crate::Index;
@@ -101,7 +101,7 @@ fn scores_of(
 ) -> Result<Vec<u32>, AllocError>
     ghost most: { ℕ }
     requires index { IsIndex most documents.now index.now }
-    requires few { length query.now ≤ MAX_KEYWORDS }
+    requires few { length query.now ≤ MOST_KEYWORDS }
     ensures scores { IfOk result (λ v. v.items
         ≡ map (score_of most documents.now query.now) documents.now) }
     ensures count { IfOk result (λ v. length v.items ≡ length documents.now) }
@@ -148,7 +148,7 @@ pub fn plain_search(
 ) -> Result<Found, AllocError>
     ghost most: { ℕ }
     requires index { IsIndex most corpus.now index.now }
-    requires few { length (distinct query.now) ≤ MAX_KEYWORDS }
+    requires few { length (distinct query.now) ≤ MOST_KEYWORDS }
     ensures { IfOk result (λ f. f ≡ found most corpus.now hits query.now pick) }
 {
     let documents = corpus.as_slice();

@@ -1,6 +1,6 @@
 //! Weights of terms, in whole numbers.
 ghost use Rattle.std.specs.Prelude.{◌≡◌, ◌≤◌, ◌<◌, ◌*◌, ◌^◌, ◌+◌, ℕ};
-ghost use Rattle.co_text.specs.declared.limits.TheConstants.{MAX_DOCUMENTS};
+ghost use Rattle.co_text.specs.declared.limits.TheConstants.{MOST_DOCUMENTS};
 ghost use Rattle.co_tfidf.specs.Weight.{bits};
 
 /// The greatest i with 2^i * df^4 <= documents^4: four times the binary logarithm of documents /
@@ -8,7 +8,7 @@ ghost use Rattle.co_tfidf.specs.Weight.{bits};
 pub fn quarter_bits(documents: u32, df: u32) -> u32
     requires some { 1 ≤ df }
     requires within { df ≤ documents }
-    requires many { documents ≤ MAX_DOCUMENTS }
+    requires many { documents ≤ MOST_DOCUMENTS }
     ensures exact { result ≡ bits documents df }
     ensures reached { 2 ^ result * df ^ 4 ≤ documents ^ 4 }
     ensures greatest { (i : ℕ) → result < i → documents ^ 4 < 2 ^ i * df ^ 4 }
@@ -21,7 +21,7 @@ pub fn quarter_bits(documents: u32, df: u32) -> u32
 fn by_doubling(documents: u32, df: u32) -> u32
     requires some { 1 ≤ df }
     requires within { df ≤ documents }
-    requires many { documents ≤ MAX_DOCUMENTS }
+    requires many { documents ≤ MOST_DOCUMENTS }
     ensures reached { 2 ^ result * df ^ 4 ≤ documents ^ 4 }
     ensures small { result ≤ 64 }
     ensures greatest { documents ^ 4 < 2 ^ (result + 1) * df ^ 4 }

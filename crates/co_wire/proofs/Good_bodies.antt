@@ -65,7 +65,7 @@ residues-below (x ∷ xs) (suc (suc i)) l =
     subst (λ (k : ℕ). residue_at (polynomial_bytes (x ∷ xs)) k < modulus_at k) (sym next)
     (subst (λ (r : ℕ). r < modulus_at (2 + i)) (sym is) (subst (λ (m : ℕ). residue_at (polynomial_bytes xs) i < m) (sym (modulus-turns i)) (residues-below xs i (omega arith))))
 
-length-polynomial : (xs : List ℕ) → length (polynomial_bytes xs) ≡ 14 * length xs
+pub length-polynomial : (xs : List ℕ) → length (polynomial_bytes xs) ≡ 14 * length xs
 length-polynomial [] = ap length polynomial-none
 length-polynomial (x ∷ xs) = omega (arith, ap length (polynomial-front x xs), length-append (coefficient_bytes x) (polynomial_bytes xs), length-coefficient x, length-polynomial xs)
 

@@ -6,10 +6,10 @@ ghost use Rattle.std.specs.List.{All};
 use crate::cases::{BadCase, Case};
 use crate::lines::{put, put_bytes, put_numbers, put_text};
 use co_pack::{
-    LONGEST_TEXT, MOST_DEGREE, MOST_DOCUMENTS, Place, RECORD_BYTES, RecordFault, bin_size,
-    pack_bins, read_record, write_record,
+    MOST_BIN_BYTES, MOST_DEGREE, Place, RECORD_BYTES, RecordFault, bin_size, pack_bins,
+    read_record, write_record,
 };
-use co_text::Title;
+use co_text::{MOST_DOCUMENTS, Title};
 use std::alloc::Global;
 
 /// The line of a case, behind the name of its call.
@@ -29,10 +29,10 @@ pub fn line(case: Case) -> Result<String, BadCase> {
 fn put_size(line: &mut String, case: Case) -> Result<(), BadCase> {
     let longest = case.number("longest");
     let (degree, chunks) = (case.number("degree"), case.number("chunks"));
-    if longest > LONGEST_TEXT || degree == 0 || degree > MOST_DEGREE || chunks == 0 {
+    if longest > MOST_BIN_BYTES || degree == 0 || degree > MOST_DEGREE || chunks == 0 {
         return Err(BadCase::Unfit);
     }
-    if chunks as u64 * (2 * degree as u64) > LONGEST_TEXT as u64 {
+    if chunks as u64 * (2 * degree as u64) > MOST_BIN_BYTES as u64 {
         return Err(BadCase::Unfit);
     }
     put(line, bin_size(longest, degree, chunks) as u128)?;

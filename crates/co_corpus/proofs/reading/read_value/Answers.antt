@@ -6,7 +6,7 @@ use Rattle.co_corpus.proofs.reading.read_value.Goals as goal
 
 pub returns-clause-document : goal.returns-clause-document
 returns-clause-document c =
-    let fits : length (string_bytes c.in-Some.text) ≤ 4194304 = omega (arith, c.len.ensures, c.if-len-gt-MAX_TEXT.false) in
+    let fits : length (string_bytes c.in-Some.text) ≤ 4194304 = omega (arith, c.len.ensures, c.if-len-gt-LONGEST_TEXT.false) in
     record {
       title = subst IsTitle c.title.view_is c.title.invariant;
       utf8 = rw (c.from_vec.ensures, c.into_bytes.ensures.value) (IsUtf8-string_bytes c.in-Some.text);

@@ -1,6 +1,6 @@
 use Rattle.std.proofs.Common.{ap, arith}
 use Rattle.co_bfv.specs.Ciphertexts.{Ciphertext, ciphertext_degree}
-use Rattle.co_pir.proofs.Doubling.{degree-difference}
+use Rattle.co_bfv.proofs.Combined.{difference-degree}
 use Rattle.co_pir.proofs.expansion.odd_part.Goals as goal
 
 pub shift-requires : goal.shift-requires
@@ -8,6 +8,6 @@ shift-requires c =
     omega (
       arith,
       ap (λ (x : Ciphertext). ciphertext_degree x) c.sub_in.ensures.value,
-      degree-difference c.in_ok-difference.difference c.args.switched.now,
+      difference-degree c.in_ok-difference.difference c.args.switched.now,
       ap (λ (x : Ciphertext). ciphertext_degree x) c.in_ok-difference.ensures,
     )

@@ -10,18 +10,22 @@ use Rattle.co_switch.proofs.products.gather_digits.Goals as goal
 pub loop-pass-init : goal.loop-pass-init
 loop-pass-init c = record {
   digits_are = refl;
-  low_degree = c.requires.low_degree;
-  middle_degree = c.requires.middle_degree;
-  high_degree = c.requires.high_degree;
+  low_degree = c.requires.room.low_degree;
+  middle_degree = c.requires.room.middle_degree;
+  high_degree = c.requires.room.high_degree;
   first = gathered_first c.args.tables.now c.args.room.now.digits c.args.values0.now c.args.sum0.now
       c.requires.none0;
   second = gathered_first c.args.tables.now c.args.room.now.digits c.args.values1.now c.args.sum1.now
       c.requires.none1;
 }
 
-pub digit_values-requires-clause-degree : goal.digit_values-requires-clause-degree
-digit_values-requires-clause-degree c =
-    ap length c.loop-pass.invariant.digits_are ∙ c.requires.digits_degree
+pub digit_values-requires-clause-room : goal.digit_values-requires-clause-room
+digit_values-requires-clause-room c = record {
+  digits_degree = ap length c.loop-pass.invariant.digits_are ∙ c.requires.room.digits_degree;
+  low_degree = c.loop-pass.invariant.low_degree;
+  middle_degree = c.loop-pass.invariant.middle_degree;
+  high_degree = c.loop-pass.invariant.high_degree;
+}
 
 pub loop-pass-preserved : goal.loop-pass-preserved
 loop-pass-preserved c =
@@ -49,13 +53,13 @@ loop-pass-preserved c =
       high_degree = spectrum-len n (coefficients (digit_polynomial (i + 2) poly)) high w;
       first = subst (λ (k : ℕ). AreGathered n k poly c.args.values0.now c.add_three.new.sum) up
           (gathered_three n i poly c.args.values0.now c.loop-pass.sum0 c.add_three.new.sum
-          low middle high low c.requires.degree c.requires.digits_degree inside h.first u v w
+          low middle high low c.requires.degree c.requires.room.digits_degree inside h.first u v w
           (c.add_three.ensures low));
       second = subst (λ (k : ℕ). AreGathered n k poly c.args.values1.now
           c.add_three-in-loop-pass.new.sum) up
           (gathered_three n i poly c.args.values1.now c.loop-pass.sum1
           c.add_three-in-loop-pass.new.sum low middle high low c.requires.degree
-          c.requires.digits_degree inside h.second u v w (c.add_three-in-loop-pass.ensures low));
+          c.requires.room.digits_degree inside h.second u v w (c.add_three-in-loop-pass.ensures low));
     }
 
 pub returns-clause-first : goal.returns-clause-first

@@ -6,7 +6,7 @@ use Rattle.co_text.proofs.title.Title.from_text.Goals as goal
 
 is_title : (c : goal.Then-are_plain) → IsTitle (string_bytes c.args.text)
 is_title c = record {
-  short = omega (arith, ap length c.as_bytes.ensures.value, c.as_bytes.ensures.len, c.len.ensures, c.if-len-le-MAX_TITLE.true);
+  short = omega (arith, ap length c.as_bytes.ensures.value, c.as_bytes.ensures.len, c.len.ensures, c.if-len-le-LONGEST_TITLE.true);
   text = IsUtf8-string_bytes c.args.text;
   plain = ap (list_all is_plain) (sym c.as_bytes.ensures.value) ∙ sym c.are_plain.ensures ∙ c.if-are_plain.true;
 }
