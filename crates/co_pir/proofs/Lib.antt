@@ -1,5 +1,6 @@
 pub mod Inverse
 pub mod Rising
+pub mod Taking
 pub mod Meant
 pub mod Moving
 pub mod Chosen

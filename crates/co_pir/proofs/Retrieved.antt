@@ -7,12 +7,12 @@ use Rattle.co_bfv.specs.Ciphertexts.{Ciphertext}
 use Rattle.co_switch.specs.Keys.{Keys, IsKey, no_key}
 use Rattle.co_pir.specs.Expansions.{expanded}
 use Rattle.co_pir.specs.Tables.{Table, row_bytes}
-use Rattle.co_pir.specs.Meanings.{AsksRow, CanRetrieve, MeansBytes}
+use Rattle.co_pir.specs.Meanings.{AsksRow, CanRetrieve, MeansBytes, IsExpansion}
 use Rattle.co_pir.specs.Replies.{retrieved}
 use Rattle.co_math.proofs.Logarithms.{log2_up-is}
 use Rattle.co_pir.proofs.Expanding.{length-expanded}
 use Rattle.co_pir.proofs.Asked.{CanExpand, expanded_means}
-use Rattle.co_pir.proofs.Gathering.{IsExpansion, row_means}
+use Rattle.co_pir.proofs.Gathering.{row_means}
 
 module _ (t : Table) (keys : Keys) (query : Ciphertext) (h : CanRetrieve t keys query) where
   expands : CanExpand keys query t.rows

@@ -7,7 +7,8 @@ use Rattle.co_ring.specs.Polynomials.{polynomial_of}
 use Rattle.co_math.specs.Logarithms.{log2_up}
 use Rattle.co_bfv.specs.Ciphertexts.{Ciphertext, IsCiphertext, ciphertext_degree, MeansWithin}
 use Rattle.co_switch.specs.Keys.{Keys, IsGoodKey, AreKeys, keys_degree}
-use Rattle.co_pir.specs.Messages.{query_polynomial}
+use Rattle.co_pir.specs.Expansions.{expanded}
+use Rattle.co_pir.specs.Messages.{query_polynomial, chosen}
 use Rattle.co_bfv.specs.Totals.{ciphertext_at}
 use Rattle.co_pir.specs.Tables.{Table, IsTable, payload, piece}
 
@@ -24,6 +25,15 @@ pub record AsksRow (s : ℤ → ℤ) (keys : Keys) (query : Ciphertext) (rows ro
 abbrev pub expansion_bound : ℕ → ℕ → ℕ
 expansion_bound degree rows =
     2 ^ log2_up rows * fresh_bound + (2 ^ log2_up rows - 1) * switch_bound degree
+
+-- an expansion for so many rows, and what it means
+pub record IsExpansion (keys : Keys) (query : Ciphertext) (rows : ℕ) (cs : List Ciphertext)
+    : Type 0 where
+  pub items : cs ≡ expanded keys query (log2_up rows)
+  pub enough : rows ≤ length cs
+  pub means : (s : ℤ → ℤ) (row r : ℕ) → AsksRow s keys query rows row → r < rows
+      → MeansWithin s (ciphertext_at cs r) (chosen (ciphertext_degree query) row r)
+      (expansion_bound (ciphertext_degree query) rows)
 
 -- the ciphertexts mean the payload polynomials of these bytes, piece by piece, within b
 pub record MeansBytes (n : ℕ) (s : ℤ → ℤ) (cs : List Ciphertext) (bytes : List ℕ) (b : ℕ)

@@ -16,6 +16,7 @@ mod laws;
 mod opening;
 mod queries;
 mod replying;
+mod sharing;
 mod table;
 
 pub use contents::MOST_ROW_CHUNKS;
